@@ -11,8 +11,8 @@ use crate::arch::FileModules;
 use backtrace_files::{FileSections, LoadedCode, LoadedFile, loaded_code};
 use core_files::MappedFile;
 use framehop::{
-    DwarfUnwindContext, FdeLookup, Generations, LoadOptions, Module, Session, UnwinderId,
-    Unwinding, load_module,
+    CodeRules, DwarfUnwindContext, FdeLookup, Generations, LoadOptions, Module, Session,
+    UnwinderId, Unwinding, load_module,
 };
 use std::alloc::{AllocError, Global};
 
@@ -29,6 +29,7 @@ fn module_with<'a>(
         lookup: FdeLookup::Auto,
         tables: None,
         debug_frame_beside: true,
+        code_rules: CodeRules::Published,
     };
     let sections = FileSections::new(code.file, code.base_svma);
     let range = mapping.start..mapping.end;

@@ -35,9 +35,9 @@ lent-as (Some found) made section is view = ap (option_map section_of) is ∙ vi
 
 -- a file whose sections are lent
 pub file-as : (sections : PeSections) (file : PeFile) → sections.pdata.now ≡ file.pdata → section_lent sections.rdata ≡ file.rdata → section_lent sections.xdata ≡ file.xdata
-    → section_lent sections.text ≡ file.text → file_of sections ≡ file
+    → section_lent sections.text ≡ file.text → sections.code_rules ≡ file.code_rules → file_of sections ≡ file
 unfolding file_of
-file-as sections file pdata rdata xdata text = rw (pdata, rdata, xdata, text) refl
+file-as sections file pdata rdata xdata text code_rules = rw (pdata, rdata, xdata, text, code_rules) refl
 
 -- what a refusal is for the module
 of-stack : (e : PeUnwinderError) → IsOfStack e → failure_of (of.Pe e) ≡ failure.OfFrame

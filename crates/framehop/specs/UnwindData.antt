@@ -8,6 +8,7 @@ use Rattle.framehop_modules.specs.declared.module_sections.BaseSvmas.{BaseSvmas}
 use Rattle.framehop_modules.specs.declared.module_sections.ModuleSections.{ModuleSections}
 use Rattle.framehop_modules.specs.declared.module_sections.ModuleSections.TheVariants.{CompactUnwindInfoAndEhFrame, PeUnwindInfo, EhFrame, DebugFrame, NoSections}
 use Rattle.framehop_modules.specs.declared.module_sections.SectionData.{SectionData}
+use Rattle.framehop_code_rules.specs.declared.CodeRules.{CodeRules}
 use Rattle.framehop_compact.specs.CompactFiles.{Code, CompactFile}
 use Rattle.framehop_compact.specs.CompactResults.{CuiResult}
 use Rattle.framehop_compact.specs.declared.cui_unwind_result.CuiUnwindResult.TheVariants.{ExecRule, NeedDwarf}
@@ -58,13 +59,14 @@ relative_range base range =
 abbrev pub pe_section : (base : ℕ) → SectionData (List ℕ) → Option PeSection
 pe_section base section = option_map (λ range. record { bytes = section.bytes; rva_range = range }) (relative_range base section.svma_range)
 
--- a PE file, by its sections
-abbrev pub pe_file : (base : ℕ) → List ℕ → (rdata xdata text : Option (SectionData (List ℕ))) → PeFile
-pe_file base pdata rdata xdata text = record {
+-- a PE file, by its sections and the rules by which its code is read
+abbrev pub pe_file : CodeRules → (base : ℕ) → List ℕ → (rdata xdata text : Option (SectionData (List ℕ))) → PeFile
+pe_file code_rules base pdata rdata xdata text = record {
   pdata = pdata;
   rdata = option_and_then (pe_section base) rdata;
   xdata = option_and_then (pe_section base) xdata;
   text = option_and_then (pe_section base) text;
+  code_rules = code_rules;
 }
 
 -- the addresses of stubs as a pair, which is empty if there are none
@@ -80,13 +82,15 @@ stub_range base range = pair_of (option_and_then (relative_range base) range)
 abbrev pub code_in : (base : ℕ) → SectionData (List ℕ) → Option Code
 code_in base section = option_map (λ start. record { start = start; bytes = section.bytes }) (relative_address base section.svma_range.start)
 
--- a Mach-O file with compact unwind info, by its sections
-abbrev pub compact_file : (base : ℕ) → List ℕ → (stubs stub_helper : Option (Range ℕ)) → (text : Option (SectionData (List ℕ))) → CompactFile
-compact_file base unwind_info stubs stub_helper text = record {
+-- a Mach-O file with compact unwind info, by its sections and the rules by which its code is read
+abbrev pub compact_file : CodeRules → (base : ℕ) → List ℕ → (stubs stub_helper : Option (Range ℕ)) → (text : Option (SectionData (List ℕ)))
+    → CompactFile
+compact_file code_rules base unwind_info stubs stub_helper text = record {
   unwind_info = unwind_info;
   text = option_and_then (code_in base) text;
   stubs = stub_range base stubs;
   stub_helper = stub_range base stub_helper;
+  code_rules = code_rules;
 }
 
 -- a section of call frames with what is asked for its FDEs, and its header, if there is one
@@ -105,8 +109,9 @@ call_frames options main beside = CallFrames (record { main = main; table = tabl
 -- relative to and the module's base as the file states it
 abbrev pub format_with : LoadOptions → BaseAddresses → (base : ℕ) → (debug_frame : Option (List ℕ)) → ModuleSections (List ℕ) → ModuleFormat
 format_with options bases base debug_frame (CompactUnwindInfoAndEhFrame unwind_info eh_frame stubs stub_helper text) =
-    Compact (compact_file base unwind_info stubs stub_helper text) eh_frame
-format_with options bases base debug_frame (PeUnwindInfo pdata rdata xdata text) = Pe (pe_file base pdata rdata xdata text)
+    Compact (compact_file options.code_rules base unwind_info stubs stub_helper text) eh_frame
+format_with options bases base debug_frame (PeUnwindInfo pdata rdata xdata text) =
+    Pe (pe_file options.code_rules base pdata rdata xdata text)
 format_with options bases base debug_frame (EhFrame bytes header) =
     call_frames options (frames_with options bases base (section.EhFrame bytes) header) (option_map (debug_frames options bases base) debug_frame)
 format_with options bases base debug_frame (DebugFrame bytes) = call_frames options (debug_frames options bases base bytes) None

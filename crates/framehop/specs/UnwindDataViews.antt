@@ -2,6 +2,7 @@
 use Rattle.std.specs.Prelude.{◌≡◌, ℕ, List, Option, option_map, IsTrue}
 use Rattle.std.specs.declared.ops.Range.{Range}
 use Rattle.dwarf_frame_rows.specs.declared.base_addresses.BaseAddresses.{BaseAddresses}
+use Rattle.framehop_code_rules.specs.declared.CodeRules.{CodeRules}
 use Rattle.framehop_compact.specs.CompactFiles.{Code, CompactFile}
 use Rattle.framehop_compact_tables.specs.Increasing as compact
 use Rattle.framehop_modules.specs.Chosen.{chosen_sections}
@@ -31,6 +32,7 @@ file_view content file = record {
   rdata = option_map (pe_section_view content) file.rdata;
   xdata = option_map (pe_section_view content) file.xdata;
   text = option_map (pe_section_view content) file.text;
+  code_rules = file.code_rules;
 }
 
 -- a section that is taken, by its bytes, if it is there
@@ -38,9 +40,9 @@ abbrev pub taken_bytes : {D : Type 0} → (D → List ℕ) → Option (SectionDa
 taken_bytes content section = option_map (section_bytes content) section
 
 -- the PE file of the sections that are taken
-abbrev pub pe_file_taken : {D : Type 0} → (D → List ℕ) → (base : ℕ) → D → (rdata xdata text : Option (SectionData D)) → PeFile
-pe_file_taken content base pdata rdata xdata text =
-    data_.pe_file base (content pdata) (taken_bytes content rdata) (taken_bytes content xdata) (taken_bytes content text)
+abbrev pub pe_file_taken : {D : Type 0} → (D → List ℕ) → CodeRules → (base : ℕ) → D → (rdata xdata text : Option (SectionData D)) → PeFile
+pe_file_taken content code_rules base pdata rdata xdata text =
+    data_.pe_file code_rules base (content pdata) (taken_bytes content rdata) (taken_bytes content xdata) (taken_bytes content text)
 
 -- the rows of a PE file increase, if the module says that they do
 abbrev pub IncreasesAsSaid : {D : Type 0} → (D → List ℕ) → PeModule D → Type 0
@@ -57,13 +59,14 @@ compact_view content file = record {
   text = option_map (code_view content) file.text;
   stubs = file.stubs;
   stub_helper = file.stub_helper;
+  code_rules = file.code_rules;
 }
 
 -- the Mach-O file of the sections that are taken
-abbrev pub compact_file_taken : {D : Type 0} → (D → List ℕ) → (base : ℕ) → D → (stubs stub_helper : Option (Range ℕ)) → Option (SectionData D)
-    → CompactFile
-compact_file_taken content base unwind_info stubs stub_helper text =
-    data_.compact_file base (content unwind_info) stubs stub_helper (taken_bytes content text)
+abbrev pub compact_taken : {D : Type 0} → (D → List ℕ) → CodeRules → (base : ℕ) → D → (stubs stub_helper : Option (Range ℕ))
+    → Option (SectionData D) → CompactFile
+compact_taken content code_rules base unwind_info stubs stub_helper text =
+    data_.compact_file code_rules base (content unwind_info) stubs stub_helper (taken_bytes content text)
 
 -- the tables of a Mach-O file increase, if the module says that they do
 abbrev pub TablesIncrease : {D : Type 0} → (D → List ℕ) → CompactModule D → Type 0

@@ -7,13 +7,14 @@ ghost use Rattle.framehop_compact.specs.CompactSteps.{compact_step};
 ghost use Rattle.framehop_rules.specs.UnwindResults.{HasValidRule};
 ghost use Rattle.framehop.specs.MethodViews.{AnswersMethod};
 ghost use Rattle.framehop.specs.UnwindData.{code_in, method_by_compact, stub_range};
-ghost use Rattle.framehop.specs.UnwindDataViews.{TablesIncrease, code_view, compact_file_taken, compact_view, taken_bytes};
+ghost use Rattle.framehop.specs.UnwindDataViews.{TablesIncrease, code_view, compact_taken, compact_view, taken_bytes};
 
 use crate::cache::AllocationPolicy;
 use crate::call_frames::{failure_of, unwind_frame_by_eh_frame};
 use crate::context::DwarfUnwindContext;
 use crate::relative::{relative_range, relative_to};
 use dwarf_frame_entries::BaseAddresses;
+use framehop_code_rules::CodeRules;
 use framehop_compact::{
     CompactUnwindInfoUnwinder, CompactUnwindInfoUnwinding, CuiUnwindResult, TextBytes,
 };
@@ -42,6 +43,8 @@ pub(crate) struct CompactModule<D> {
     stubs: (u32, u32),
     stub_helper: (u32, u32),
     text: Option<CodeAt<D>>,
+    // By which rules code is read.
+    code_rules: CodeRules,
 }
 
 // The range of a section of stubs relative to a base, which is empty if there is none.
@@ -74,8 +77,9 @@ fn code_in<D: SectionBytes + Drop>(
 }
 
 impl<D: SectionBytes + Drop> CompactModule<D> {
-    // The Mach-O file of a module with these sections. Tests whether its tables increase.
+    // The Mach-O file of a module with these sections, whose code is read by these rules. Tests whether its tables increase.
     pub(crate) fn new(
+        rules: CodeRules,
         base_svma: u64,
         unwind_info: D,
         eh_frame: Option<D>,
@@ -83,7 +87,7 @@ impl<D: SectionBytes + Drop> CompactModule<D> {
         stub_helper_svma: Option<Range<u64>>,
         text: Option<SectionData<D>>,
     ) -> Self
-        ensures view { compact_view D.content result ≡ compact_file_taken D.content base_svma
+        ensures view { compact_view D.content result ≡ compact_taken D.content rules base_svma
             unwind_info stubs_svma stub_helper_svma text }
         ensures eh_frame { result.eh_frame ≡ eh_frame }
         ensures increasing { TablesIncrease D.content result }
@@ -96,6 +100,7 @@ impl<D: SectionBytes + Drop> CompactModule<D> {
             stubs: stub_range(base_svma, stubs_svma),
             stub_helper: stub_range(base_svma, stub_helper_svma),
             text: code_in(base_svma, text),
+            code_rules: rules,
         }
     }
 }
@@ -119,11 +124,12 @@ fn unwinder_of<A: CompactUnwindInfoUnwinding, D: SectionBytes>(
 {
     let unwind_info = file.unwind_info.bytes();
     let text = lent(&file.text);
-    if file.increasing {
+    let unwinder = if file.increasing {
         CompactUnwindInfoUnwinder::new_increasing(unwind_info, text, file.stubs, file.stub_helper)
     } else {
         CompactUnwindInfoUnwinder::new(unwind_info, text, file.stubs, file.stub_helper)
-    }
+    };
+    unwinder.with_code_rules(file.code_rules)
 }
 
 // What the tables of a file say of a frame at a relative address.

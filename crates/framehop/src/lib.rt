@@ -34,6 +34,7 @@ pub use context::DwarfUnwindContext;
 pub use dwarf::DwarfUnwinder;
 pub use dwarf_frame_entries::BaseAddresses;
 pub use framehop_analysis::InstructionAnalysis;
+pub use framehop_code_rules::CodeRules;
 pub use framehop_compact::{
     CompactUnwindInfoUnwinder, CompactUnwindInfoUnwinding, CuiUnwindResult, Function, TextBytes,
 };

@@ -1,5 +1,7 @@
 //! What a module's load asks for.
 
+use framehop_code_rules::CodeRules;
+
 /// How the FDEs of a module's section of call frames are found.
 #[derive(Debug, Clone, Copy, PartialEq, Eq)]
 pub enum FdeLookup {
@@ -32,6 +34,8 @@ pub struct LoadOptions {
     /// compiled without asynchronous unwind tables and linked with start files that have them: by `.debug_frame` at an address that its
     /// FDE contains and that of `.eh_frame` doesn't. By default `false`.
     pub debug_frame_beside: bool,
+    /// By which rules the machine code of a module with compact unwind info or of a PE file is read. By default `Published`.
+    pub code_rules: CodeRules,
 }
 
 impl Default for LoadOptions {
@@ -45,6 +49,7 @@ impl Default for LoadOptions {
             lookup: FdeLookup::Auto,
             tables: None,
             debug_frame_beside: false,
+            code_rules: CodeRules::Published,
         }
     }
 }

@@ -13,6 +13,7 @@ ghost use Rattle.framehop.specs.UnwindDataViews.{IncreasesAsSaid, file_view, pe_
 use crate::cache::AllocationPolicy;
 use crate::call_frames::failure_of;
 use crate::relative::relative_range;
+use framehop_code_rules::CodeRules;
 use framehop_errors::{PeUnwinderError, UnwinderError};
 use framehop_modules::{SectionBytes, SectionData};
 use framehop_pe::{DataAtRvaRange, PeSections, PeUnwinding, pdata_is_increasing};
@@ -37,6 +38,8 @@ pub(crate) struct PeModule<D> {
     rdata: Option<SectionAtRva<D>>,
     xdata: Option<SectionAtRva<D>>,
     text: Option<SectionAtRva<D>>,
+    // By which rules the code is read.
+    code_rules: CodeRules,
 }
 
 // A section with its addresses relative to a base, if they fit.
@@ -56,8 +59,9 @@ fn section_at<D: SectionBytes + Drop>(
 }
 
 impl<D: SectionBytes + Drop> PeModule<D> {
-    // The PE file of a module with these sections. Tests whether the rows of its table increase.
+    // The PE file of a module with these sections, whose code is read by these rules. Tests whether the rows of its table increase.
     pub(crate) fn new(
+        code_rules: CodeRules,
         base_svma: u64,
         pdata: D,
         rdata: Option<SectionData<D>>,
@@ -65,7 +69,7 @@ impl<D: SectionBytes + Drop> PeModule<D> {
         text: Option<SectionData<D>>,
     ) -> Self
         ensures view { file_view D.content result
-            ≡ pe_file_taken D.content base_svma pdata rdata xdata text }
+            ≡ pe_file_taken D.content code_rules base_svma pdata rdata xdata text }
         ensures increasing { IncreasesAsSaid D.content result }
     {
         let increasing = pdata_is_increasing(pdata.bytes());
@@ -75,6 +79,7 @@ impl<D: SectionBytes + Drop> PeModule<D> {
             rdata: section_at(base_svma, rdata),
             xdata: section_at(base_svma, xdata),
             text: section_at(base_svma, text),
+            code_rules,
         }
     }
 }
@@ -142,6 +147,7 @@ pub(crate) fn unwind_frame_by_pe<
         rdata: rdata.as_ref(),
         xdata: xdata.as_ref(),
         text: text.as_ref(),
+        code_rules: file.code_rules,
     };
     match unwind_frame_by_sections::<A, F>(
         sections,

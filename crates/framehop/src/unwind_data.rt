@@ -140,6 +140,7 @@ fn format_with<D: SectionBytes + Drop>(
         (option_map D.content debug_frame) (sections_bytes D.content sections)) }
     ensures increase { IfOk result (IncreaseAsSaid D.content) }
 {
+    let rules = options.code_rules;
     match sections {
         ModuleSections::EhFrame {
             eh_frame,
@@ -160,7 +161,7 @@ fn format_with<D: SectionBytes + Drop>(
             rdata,
             xdata,
             text,
-        } => Ok(ModuleFormat::Pe(PeModule::new(base_svma, pdata, rdata, xdata, text))),
+        } => Ok(ModuleFormat::Pe(PeModule::new(rules, base_svma, pdata, rdata, xdata, text))),
         ModuleSections::CompactUnwindInfoAndEhFrame {
             unwind_info,
             eh_frame,
@@ -168,6 +169,7 @@ fn format_with<D: SectionBytes + Drop>(
             stub_helper_svma,
             text,
         } => Ok(ModuleFormat::Compact(CompactModule::new(
+            rules,
             base_svma,
             unwind_info,
             eh_frame,

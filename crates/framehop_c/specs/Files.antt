@@ -1,5 +1,6 @@
 -- Files that are mapped in a profiled process, and what their loads do.
 use Rattle.std.specs.Prelude.{ℕ, ◌≡◌, [], Bool, not, ◌==◌, Option, Some, None, option_map, if◌then◌else◌}
+use Rattle.framehop_code_rules.specs.declared.CodeRules.TheVariants.{Published}
 use Rattle.framehop_unwinder.specs.ByNumber.{is_held}
 use Rattle.framehop_unwinder.specs.Modules.{Loaded}
 use Rattle.framehop.specs.UnwindData.{UnwindData, unwind_data_with}
@@ -27,6 +28,7 @@ options_of on file = option_map (λ lookup. record {
   lookup = lookup;
   tables = if file.tables == 0 then None else Some on;
   debug_frame_beside = not (file.debug_frame_beside == 0);
+  code_rules = Published;
 }) (lookup_numbered file.lookup)
 
 -- the module of a file, as its load asks for it: without a name

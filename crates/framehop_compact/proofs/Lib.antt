@@ -4,3 +4,4 @@ mod ValidRules
 mod PlaceOfBp
 mod Weights
 mod BpOfSix
+mod StubHelpers

@@ -38,7 +38,7 @@ step_in m file address is_first function =
 -- The step by where the address is.
 abbrev pub step_by_place : {Rule : Type 0} → CompactMeanings Rule → CompactFile → ℕ → Bool → Refusable Place → CuiResult Rule
 step_by_place m file address is_first (Ok place.Stubs) = first_or is_first m.stub_rule StubFunctionCannotBeCaller
-step_by_place m file address is_first (Ok (place.StubHelper offset)) = first_or is_first (m.helper_rule offset) StubFunctionCannotBeCaller
+step_by_place m file address is_first (Ok (place.StubHelper offset)) = first_or is_first (m.helper_rule file.code_rules offset) StubFunctionCannotBeCaller
 step_by_place m file address is_first (Ok place.NoFunction) = first_or is_first m.stub_rule (AddressOutsideRange address)
 step_by_place m file address is_first (Ok (place.Function function)) = step_in m file address is_first function
 step_by_place m file address is_first (Err refusal) = Err refusal

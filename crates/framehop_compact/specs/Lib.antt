@@ -5,6 +5,7 @@ pub mod CompactResults
 pub mod CompactRules
 pub mod CompactMeanings
 pub mod Analysed
+pub mod StubHelper
 pub mod Unwound
 pub mod UnwoundAarch64
 pub mod CompactFiles

@@ -3,6 +3,8 @@ use Rattle.std.specs.Prelude.{ℕ, ◌-◌, ◌%◌, nat_eq, nat_lt, Bool, true,
 use Rattle.std.specs.List.{starts_with}
 use Rattle.framehop_errors.specs.declared.compact.CompactUnwindInfoUnwinderError.TheVariants.{FunctionHasNoInfo, BadOpcodeKind}
 use Rattle.framehop_errors.specs.declared.compact.CompactUnwindInfoUnwinderError.TheVariants as error
+use Rattle.framehop_code_rules.specs.declared.CodeRules.{CodeRules}
+use Rattle.framehop_code_rules.specs.declared.CodeRules.TheVariants.{Published, Known}
 use Rattle.framehop_rules.specs.declared.x86_64.unwind_rule.UnwindRuleX86_64.{UnwindRuleX86_64}
 use Rattle.framehop_rules.specs.declared.x86_64.unwind_rule.UnwindRuleX86_64.TheVariants.{JustReturn, OffsetSp, UseFramePointer}
 use Rattle.framehop_analysis.specs.Epilogue.{IsEpilogueRule}
@@ -52,11 +54,16 @@ abbrev pub unwound : Function → Bool → ℕ → Option (List ℕ) → CuiResu
 unwound function is_first offset text =
     found_or (analysed (λ text offset. (rule_found text offset).0) is_first offset text) (function_rule (opcode_of function.opcode) is_first text)
 
+-- Where the code that stubs share has pushed its word: after its `push r11`, which stands at 7. The original has it there already.
+abbrev pub helper_has_pushed : CodeRules → ℕ
+helper_has_pushed Known = 9
+helper_has_pushed Published = 7
+
 -- The rule in `__stub_helper`. Linkers begin it with code that all stubs share: `lea r11`, `push r11`, a jump and a `nop`, of 7, 2, 6
 -- and 1 bytes. Then come stubs of `push` and `jmp`, of 5 bytes each.
-abbrev pub stub_helper_rule : ℕ → UnwindRuleX86_64
-stub_helper_rule offset =
-    if nat_lt offset 7 then OffsetSp 2 else
+abbrev pub stub_helper_rule : CodeRules → ℕ → UnwindRuleX86_64
+stub_helper_rule code_rules offset =
+    if nat_lt offset (helper_has_pushed code_rules) then OffsetSp 2 else
     if nat_lt offset 16 then OffsetSp 3 else
     if nat_lt ((offset - 16) % 10) 5 then JustReturn else
     OffsetSp 2

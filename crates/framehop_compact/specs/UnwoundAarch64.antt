@@ -52,6 +52,6 @@ unwound function is_first offset text = unwound_as (opcode_of function.opcode) i
 abbrev pub stub_helper_rule : ℕ → UnwindRuleAarch64
 stub_helper_rule offset = if nat_lt offset 12 then NoOp else if nat_lt offset 24 then OffsetSp 1 else NoOp
 
--- What compact unwind info means.
+-- What compact unwind info means. The helper's rule is that of the original.
 abbrev pub compact_aarch64 : CompactMeanings UnwindRuleAarch64
-compact_aarch64 = record { start_rule = NoOp; stub_rule = NoOp; helper_rule = stub_helper_rule; unwound = unwound }
+compact_aarch64 = record { start_rule = NoOp; stub_rule = NoOp; helper_rule = λ code_rules. stub_helper_rule; unwound = unwound }

@@ -13,6 +13,7 @@ mod unwinder;
 pub mod x86_64;
 
 pub use cui_unwind_result::CuiUnwindResult;
+pub use framehop_code_rules::CodeRules;
 pub use framehop_compact_tables::{CompactFormatError, Function};
 pub use framehop_errors::CompactUnwindInfoUnwinderError;
 pub use macho::CompactUnwindInfoUnwinding;

@@ -7,6 +7,7 @@ ghost use Rattle.framehop_compact.specs.CompactResults.{HasValidCuiRule};
 ghost use Rattle.framehop_compact.specs.declared.cui_unwind_result.CuiUnwindResult.TheVariants.{ExecRule};
 
 use crate::cui_unwind_result::CuiUnwindResult;
+use framehop_code_rules::CodeRules;
 use framehop_compact_tables::Function;
 use framehop_errors::CompactUnwindInfoUnwinderError;
 use framehop_rules::Arch;
@@ -30,9 +31,10 @@ pub trait CompactUnwindInfoUnwinding: Arch {
 
     /// The step of a first frame at an offset in `__stub_helper`, whose code linkers write.
     fn rule_for_stub_helper(
+        code_rules: CodeRules,
         offset: u32,
     ) -> Result<CuiUnwindResult<Self::UnwindRule>, CompactUnwindInfoUnwinderError>
-        ensures rule { result ≡ Ok (ExecRule (compact.helper_rule offset)) }
+        ensures rule { result ≡ Ok (ExecRule (compact.helper_rule code_rules offset)) }
         ensures valid { HasValidCuiRule Self.UnwindRule.is_valid result };
 
     ghost start_is: { compact.start_rule ≡ Self.UnwindRule.start_rule };

@@ -6,6 +6,7 @@ ghost use Rattle.framehop_compact_tables.specs.Functions.{ContainsAddress};
 ghost use Rattle.framehop_compact.specs.CompactFiles.{code_of, file_of};
 ghost use Rattle.framehop_compact.specs.Places.{in_range, place_of, function_text, IfInFunction};
 
+use framehop_code_rules::CodeRules;
 use framehop_compact_tables::{Function, UnwindInfo};
 use framehop_errors::CompactUnwindInfoUnwinderError;
 
@@ -43,6 +44,8 @@ pub struct CompactSections<'a> {
     pub stubs: (u32, u32),
     /// The range of `__stub_helper`.
     pub stub_helper: (u32, u32),
+    /// By which rules code is read.
+    pub code_rules: CodeRules,
 }
 
 /// Where an address is.

@@ -1,6 +1,7 @@
 //! Steps by compact unwind info.
 
 ghost use Rattle.std.specs.Prelude.{◌≡◌, ◌≤◌, ◌↔◌, IfOk, IsTrue, true, false};
+ghost use Rattle.framehop_code_rules.specs.declared.CodeRules.TheVariants.{Published};
 ghost use Rattle.framehop_compact_tables.specs.Functions.{ContainsAddress};
 ghost use Rattle.framehop_compact_tables.specs.CountedLookups.{AreFewIfIncreasing};
 ghost use Rattle.framehop_compact_tables.specs.Increasing.{IsIncreasing};
@@ -12,6 +13,7 @@ use crate::cui_unwind_result::CuiUnwindResult;
 use crate::macho::CompactUnwindInfoUnwinding;
 use crate::sections::{CompactSections, Place, TextBytes};
 use dwarf_readers::Steps;
+use framehop_code_rules::CodeRules;
 use framehop_compact_tables::{Function, UnwindInfo};
 use framehop_errors::CompactUnwindInfoUnwinderError;
 use framehop_rules::UnwindRule;
@@ -43,7 +45,8 @@ fn first_or<R: Copy>(
 
 impl<'a, A: CompactUnwindInfoUnwinding> CompactUnwindInfoUnwinder<'a, A> {
     /// An unwinder by the bytes of `__unwind_info`, the bytes of code if they are there, and the ranges of `__stubs` and
-    /// `__stub_helper`, which are empty where a file has none. Lookups pass over the tables.
+    /// `__stub_helper`, which are empty where a file has none. Lookups pass over the tables, and code is read by the rules of the
+    /// original.
     pub fn new(
         unwind_info_data: &'a [u8],
         text_bytes: Option<TextBytes<'a>>,
@@ -53,8 +56,9 @@ impl<'a, A: CompactUnwindInfoUnwinding> CompactUnwindInfoUnwinder<'a, A> {
         ensures tables { result.sections.unwind_info.bytes.now ≡ unwind_info_data.now }
         ensures passes { result.sections.unwind_info.increasing ≡ false }
         ensures text { result.sections.text ≡ text_bytes.entry }
-        ensures stubs { result.sections.stubs ≡ stubs_range }
-        ensures stub_helper { result.sections.stub_helper ≡ stub_helper_range }
+        ensures ranges { (result.sections.stubs ≡ stubs_range)
+            × (result.sections.stub_helper ≡ stub_helper_range) }
+        ensures code_rules { result.sections.code_rules ≡ Published }
     {
         CompactUnwindInfoUnwinder {
             sections: CompactSections {
@@ -62,6 +66,7 @@ impl<'a, A: CompactUnwindInfoUnwinding> CompactUnwindInfoUnwinder<'a, A> {
                 text: text_bytes,
                 stubs: stubs_range,
                 stub_helper: stub_helper_range,
+                code_rules: CodeRules::Published,
             },
             arch: PhantomData,
         }
@@ -78,8 +83,9 @@ impl<'a, A: CompactUnwindInfoUnwinding> CompactUnwindInfoUnwinder<'a, A> {
         ensures tables { result.sections.unwind_info.bytes.now ≡ unwind_info_data.now }
         ensures halves { result.sections.unwind_info.increasing ≡ true }
         ensures text { result.sections.text ≡ text_bytes.entry }
-        ensures stubs { result.sections.stubs ≡ stubs_range }
-        ensures stub_helper { result.sections.stub_helper ≡ stub_helper_range }
+        ensures ranges { (result.sections.stubs ≡ stubs_range)
+            × (result.sections.stub_helper ≡ stub_helper_range) }
+        ensures code_rules { result.sections.code_rules ≡ Published }
     {
         CompactUnwindInfoUnwinder {
             sections: CompactSections {
@@ -87,6 +93,20 @@ impl<'a, A: CompactUnwindInfoUnwinding> CompactUnwindInfoUnwinder<'a, A> {
                 text: text_bytes,
                 stubs: stubs_range,
                 stub_helper: stub_helper_range,
+                code_rules: CodeRules::Published,
+            },
+            arch: PhantomData,
+        }
+    }
+
+    /// The same unwinder, which reads code by these rules.
+    pub fn with_code_rules(self, code_rules: CodeRules) -> Self
+        ensures { result.sections ≡ record self.entry.sections { code_rules = code_rules } }
+    {
+        CompactUnwindInfoUnwinder {
+            sections: CompactSections {
+                code_rules,
+                ..self.sections
             },
             arch: PhantomData,
         }
@@ -166,7 +186,9 @@ impl<'a, A: CompactUnwindInfoUnwinding> CompactUnwindInfoUnwinder<'a, A> {
                 let rule = A::UnwindRule::rule_for_stub_functions();
                 first_or(is_first_frame, rule, not_a_caller)
             }
-            Place::StubHelper(offset) if is_first_frame => A::rule_for_stub_helper(offset),
+            Place::StubHelper(offset) if is_first_frame => {
+                A::rule_for_stub_helper(self.sections.code_rules, offset)
+            }
             Place::StubHelper(_) => Err(not_a_caller),
             Place::Function(function) => { self.unwind_function(function, address, is_first_frame) }
             Place::NoFunction => {

@@ -10,9 +10,10 @@ use Rattle.framehop_pe_codes.specs.Epilogs.{EpilogLeft, epilog_of}
 use Rattle.framehop_pe_codes.specs.Infos.{Info, chain_after, chain_from, info_at, info_of, operations_to_undo}
 use Rattle.framehop_pe_codes.specs.Refusals.{IsOfFile, PeResult, or_refusal, result_and_then}
 use Rattle.framehop_pe_codes.specs.Sections.{PeFile, section_bytes, text_memory, unwind_info_memory}
+use Rattle.framehop_pe_codes.specs.declared.ends.RowCode.{RowCode}
 use Rattle.framehop_pe_codes.specs.declared.operation.UnwindOperation.{UnwindOperation}
 use Rattle.framehop_pe.specs.Rows.{function_of}
-use Rattle.framehop_pe.specs.ToUndo.{ByCodes, ByEpilog, Leaf, ToUndo, code_to_end, epilog_at, epilog_or_codes, to_undo_at, to_undo_by}
+use Rattle.framehop_pe.specs.ToUndo.{ByCodes, ByEpilog, Leaf, ToUndo, code_to_end, ends_by, epilog_at, epilog_or_codes, row_code, to_undo_at, to_undo_by}
 use Rattle.framehop_pe.specs.declared.pdata.RuntimeFunction.{RuntimeFunction}
 
 abbrev pub IsRefusedByFile : {A : Type 0} → PeResult A → Type 0
@@ -58,10 +59,11 @@ module _ (file : PeFile) where
       (by-option (section_bytes file.text address) (MissingInstructionData address) tt)
       (λ bytes. whole address bytes (end - address) (nat_lt (length bytes) (end - address)))
 
-  epilog : (frame_register : Option Reg) (address end : ℕ) (is_first : Bool) → IsRefusedByFile (epilog_at file frame_register address end is_first)
-  epilog frame_register address end true =
-      by-both (code_to_end file address end) (λ bytes. Ok (epilog_of frame_register bytes)) (code address end) (λ bytes. read (epilog_of frame_register bytes))
-  epilog frame_register address end false = read None
+  epilog : (row : RowCode) (frame_register : Option Reg) (address : ℕ) (is_first : Bool) → IsRefusedByFile (epilog_at file row frame_register address is_first)
+  epilog row frame_register address true =
+      let seen : List ℕ → Option EpilogLeft = epilog_of (ends_by file.code_rules row) frame_register in
+      by-both (code_to_end file address row.end) (λ bytes. Ok (seen bytes)) (code address row.end) (λ bytes. read (seen bytes))
+  epilog row frame_register address false = read None
 
   operations : (first : Info) (offset : ℕ) → IsRefusedByFile (operations_from (unwind_info_memory file) first offset)
   operations first offset =
@@ -82,10 +84,10 @@ module _ (file : PeFile) where
   by-function (Some function) address is_first =
       let after : Info → Option EpilogLeft → PeResult ToUndo = λ first. epilog_or_codes (unwind_info_memory file) first (address - function.begin_address) in
       by-both (info_at (unwind_info_memory file) true function.unwind_info_address)
-      (λ first. result_and_then (epilog_at file first.frame_register address function.end_address is_first) (after first))
+      (λ first. result_and_then (epilog_at file (row_code function first.chained) first.frame_register address is_first) (after first))
       (info true function.unwind_info_address)
-      (λ first. by-both (epilog_at file first.frame_register address function.end_address is_first) (after first)
-      (epilog first.frame_register address function.end_address is_first) (λ found. codes first (address - function.begin_address) found))
+      (λ first. by-both (epilog_at file (row_code function first.chained) first.frame_register address is_first) (after first)
+      (epilog (row_code function first.chained) first.frame_register address is_first) (λ found. codes first (address - function.begin_address) found))
 
   pub refused-by_file : (address : ℕ) (is_first : Bool) → IsRefusedByFile (to_undo_at file address is_first)
   refused-by_file address is_first = by-function (function_of file.pdata address) address is_first

@@ -5,3 +5,8 @@ pub mod Listings
 pub mod Runs
 pub mod Interrupts
 pub mod Pops
+pub mod PopBytes
+pub mod PopRuns
+pub mod EpilogSpellings
+pub mod EpilogEndings
+pub mod EpilogsSpelled

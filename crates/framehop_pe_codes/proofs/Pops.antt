@@ -4,7 +4,7 @@ use Rattle.std.specs.Prelude.{◌-◌, ◌==◌, ◌&&◌, slice_index, if◌the
 use Rattle.std.specs.Option.{option_map, option_and_then}
 use Rattle.framehop_registers.specs.declared.x86_64.unwindregs.Reg.{Reg}
 use Rattle.framehop_pe_codes.specs.Codes.{register_numbered}
-use Rattle.framehop_pe_codes.specs.Epilogs.{is_end, is_pop, pop_of, pops_of, pops_within}
+use Rattle.framehop_pe_codes.specs.Epilogs.{is_pop, pop_of, pops_until, pops_within}
 
 abbrev pub After : (List ℕ → Option (List Reg)) → List ℕ → Option (Reg × ℕ) → Option (List Reg)
 After more bytes found = option_and_then (λ (f : Reg × ℕ). option_map (λ registers. f.0 ∷ registers) (more (drop f.1 bytes))) found
@@ -40,43 +40,45 @@ after-same f g bytes (Some (register, size)) same = ap (option_map (λ registers
 shorter : (size n : ℕ) (bytes : List ℕ) → 0 < size → 0 < length bytes → length bytes ≤ suc n → length (drop size bytes) ≤ n
 shorter size n bytes some there h = let len = length-drop size bytes in omega arith
 
--- at no bytes
-none-within : (n : ℕ) → pops_within n [] ≡ (if is_end [] then Some [] else None)
-none-within zero = refl
-none-within (suc n) = ap (λ (o : Option (Reg × ℕ)). if is_end [] then Some [] else After (pops_within n) [] o) pop-none
+-- pops up to what ends them
+module _ (ends : List ℕ → Bool) where
+  -- at no bytes
+  none-within : (n : ℕ) → pops_within ends n [] ≡ (if ends [] then Some [] else None)
+  none-within zero = refl
+  none-within (suc n) = ap (λ (o : Option (Reg × ℕ)). if ends [] then Some [] else After (pops_within ends n) [] o) pop-none
 
--- more room than there are bytes changes nothing
-enough : (n m : ℕ) (bytes : List ℕ) → length bytes ≤ n → length bytes ≤ m → pops_within n bytes ≡ pops_within m bytes
-enough n m [] p q = none-within n ∙ sym (none-within m)
-enough zero m (byte ∷ bytes) p q = absurd (omega arith)
-enough (suc n) zero (byte ∷ bytes) p q = absurd (omega arith)
-enough (suc n) (suc m) (byte ∷ bytes) p q =
-    ap (λ (o : Option (List Reg)). if is_end (byte ∷ bytes) then Some [] else o)
-    (after-same (pops_within n) (pops_within m) (byte ∷ bytes) (pop_of (byte ∷ bytes))
-    (λ register size is. let some = pop-some (byte ∷ bytes) register size is in
-    enough n m (drop size (byte ∷ bytes)) (shorter size n (byte ∷ bytes) some (omega arith) p) (shorter size m (byte ∷ bytes) some (omega arith) q)))
+  -- more room than there are bytes changes nothing
+  enough : (n m : ℕ) (bytes : List ℕ) → length bytes ≤ n → length bytes ≤ m → pops_within ends n bytes ≡ pops_within ends m bytes
+  enough n m [] p q = none-within n ∙ sym (none-within m)
+  enough zero m (byte ∷ bytes) p q = absurd (omega arith)
+  enough (suc n) zero (byte ∷ bytes) p q = absurd (omega arith)
+  enough (suc n) (suc m) (byte ∷ bytes) p q =
+      ap (λ (o : Option (List Reg)). if ends (byte ∷ bytes) then Some [] else o)
+      (after-same (pops_within ends n) (pops_within ends m) (byte ∷ bytes) (pop_of (byte ∷ bytes))
+      (λ register size is. let some = pop-some (byte ∷ bytes) register size is in
+      enough n m (drop size (byte ∷ bytes)) (shorter size n (byte ∷ bytes) some (omega arith) p) (shorter size m (byte ∷ bytes) some (omega arith) q)))
 
--- an end, or the first pop and those after it
-pub pops-next : (bytes : List ℕ) → pops_of bytes ≡ (if is_end bytes then Some [] else After pops_of bytes (pop_of bytes))
-unfolding pops_of
-pops-next [] = ap (λ (o : Option (Reg × ℕ)). if is_end [] then Some [] else After pops_of [] o) (sym pop-none)
-pops-next (byte ∷ bytes) =
-    ap (λ (o : Option (List Reg)). if is_end (byte ∷ bytes) then Some [] else o)
-    (after-same (pops_within (length bytes)) pops_of (byte ∷ bytes) (pop_of (byte ∷ bytes))
-    (λ register size is. let some = pop-some (byte ∷ bytes) register size is in
-    enough (length bytes) (length (drop size (byte ∷ bytes))) (drop size (byte ∷ bytes)) (shorter size (length bytes) (byte ∷ bytes) some (omega arith) (omega arith)) (omega arith)))
+  -- an end, or the first pop and those after it
+  pub pops-next : (bytes : List ℕ) → pops_until ends bytes ≡ (if ends bytes then Some [] else After (pops_until ends) bytes (pop_of bytes))
+  unfolding pops_until
+  pops-next [] = ap (λ (o : Option (Reg × ℕ)). if ends [] then Some [] else After (pops_until ends) [] o) (sym pop-none)
+  pops-next (byte ∷ bytes) =
+      ap (λ (o : Option (List Reg)). if ends (byte ∷ bytes) then Some [] else o)
+      (after-same (pops_within ends (length bytes)) (pops_until ends) (byte ∷ bytes) (pop_of (byte ∷ bytes))
+      (λ register size is. let some = pop-some (byte ∷ bytes) register size is in
+      enough (length bytes) (length (drop size (byte ∷ bytes))) (drop size (byte ∷ bytes)) (shorter size (length bytes) (byte ∷ bytes) some (omega arith) (omega arith)) (omega arith)))
 
-pub pops-end : (bytes : List ℕ) → is_end bytes ≡ true → pops_of bytes ≡ Some []
-pops-end bytes end = pops-next bytes ∙ ap (λ (b : Bool). if b then Some [] else After pops_of bytes (pop_of bytes)) end
+  pub pops-end : (bytes : List ℕ) → ends bytes ≡ true → pops_until ends bytes ≡ Some []
+  pops-end bytes end = pops-next bytes ∙ ap (λ (b : Bool). if b then Some [] else After (pops_until ends) bytes (pop_of bytes)) end
 
-pub pops-other : (bytes : List ℕ) → is_end bytes ≡ false → pop_of bytes ≡ None → pops_of bytes ≡ None
-pops-other bytes more none =
-    pops-next bytes ∙ ap (λ (b : Bool). if b then Some [] else After pops_of bytes (pop_of bytes)) more ∙ ap (After pops_of bytes) none
+  pub pops-other : (bytes : List ℕ) → ends bytes ≡ false → pop_of bytes ≡ None → pops_until ends bytes ≡ None
+  pops-other bytes more none =
+      pops-next bytes ∙ ap (λ (b : Bool). if b then Some [] else After (pops_until ends) bytes (pop_of bytes)) more ∙ ap (After (pops_until ends) bytes) none
 
-pub pops-cons : (bytes : List ℕ) (register : Reg) (size : ℕ) → is_end bytes ≡ false → pop_of bytes ≡ Some (register, size)
-    → pops_of bytes ≡ option_map (λ registers. register ∷ registers) (pops_of (drop size bytes))
-pops-cons bytes register size more found =
-    pops-next bytes ∙ ap (λ (b : Bool). if b then Some [] else After pops_of bytes (pop_of bytes)) more ∙ ap (After pops_of bytes) found
+  pub pops-cons : (bytes : List ℕ) (register : Reg) (size : ℕ) → ends bytes ≡ false → pop_of bytes ≡ Some (register, size)
+      → pops_until ends bytes ≡ option_map (λ registers. register ∷ registers) (pops_until ends (drop size bytes))
+  pops-cons bytes register size more found =
+      pops-next bytes ∙ ap (λ (b : Bool). if b then Some [] else After (pops_until ends) bytes (pop_of bytes)) more ∙ ap (After (pops_until ends) bytes) found
 
 pub some-mapped : {A B : Type 0} (f : A → B) (o : Option A) → IsSome (option_map f o) ↔ IsSome o
 some-mapped f None = (λ h. h, λ h. h)

@@ -1,22 +1,14 @@
 -- What is left of an epilog at an address, as bytes (Microsoft, "x64 exception handling", "Epilog code"): an instruction that sets
--- the stack pointer, which may be missing; pops; and a return or a jump out of the function, of which this library has a list of its
--- own.
-use Rattle.std.specs.Prelude.{ℕ, zero, suc, ◌+◌, ◌-◌, ◌/◌, ◌%◌, ◌==◌, ◌&&◌, ◌||◌, ℤ, pos, ◌-ℤ◌, Bool, nat_lt, nat_le, if◌then◌else◌, List, [], ◌∷◌, length, drop, slice_index, Option, Some, None}
-use Rattle.std.specs.List.{starts_with}
+-- the stack pointer, which may be missing; pops; and a return or a jump out of the function.
+use Rattle.std.specs.Prelude.{ℕ, zero, suc, ◌+◌, ◌-◌, ◌/◌, ◌%◌, ◌==◌, ◌&&◌, Bool, true, false, nat_lt, nat_le, if◌then◌else◌, List, [], ◌∷◌, length, drop, slice_index, Option, Some, None}
 use Rattle.std.specs.Option.{option_map, option_and_then, option_or}
 use Rattle.framehop_registers.specs.declared.x86_64.unwindregs.Reg.{Reg}
 use Rattle.framehop_registers.specs.declared.x86_64.unwindregs.Reg.TheVariants.{RAX, RDX, RCX, RBX, RSI, RDI, RBP, RSP, R8, R9, R10, R11, R12, R13, R14, R15}
 use Rattle.framehop_pe_codes.specs.Codes.{register_numbered, u32_at}
+use Rattle.framehop_pe_codes.specs.EpilogEnds.{begins_with, is_end, signed_below}
+use Rattle.framehop_pe_codes.specs.declared.ends.EpilogEnds.{EpilogEnds}
 use Rattle.framehop_pe_codes.specs.declared.epilog.SpAdjustment.{SpAdjustment}
 use Rattle.framehop_pe_codes.specs.declared.epilog.SpAdjustment.TheVariants.{Stays, Add, Lea}
-
--- Bytes begin with these.
-unfoldable pub begins_with : List ℕ → List ℕ → Bool
-begins_with spelling bytes = starts_with (λ a b. a == b) bytes spelling
-
--- A number below a limit, as a signed number of as many bits.
-abbrev pub signed_below : ℕ → ℕ → ℤ
-signed_below limit number = if nat_lt number (limit / 2) then pos number else pos number -ℤ pos limit
 
 -- The number of a register in instructions.
 abbrev pub number_of : Reg → ℕ
@@ -95,22 +87,31 @@ pop_of bytes =
     if (slice_index bytes 0 == 0x41) && is_pop (slice_index bytes 1) then Some (register_numbered (slice_index bytes 1 - 0x50), 2) else
     None
 
--- A return or a jump out of the function: c3, f3 c3, eb, e9, ff 25, 48 ff 25.
-unfoldable pub is_end : List ℕ → Bool
-is_end bytes =
-    begins_with (0xc3 ∷ []) bytes || begins_with (0xf3 ∷ 0xc3 ∷ []) bytes || begins_with (0xeb ∷ []) bytes || begins_with (0xe9 ∷ []) bytes
-    || begins_with (0xff ∷ 0x25 ∷ []) bytes || begins_with (0x48 ∷ 0xff ∷ 0x25 ∷ []) bytes
+-- The bytes of the pop of a register.
+abbrev pub pop_bytes : Reg → List ℕ
+pop_bytes register =
+    let number = number_of register in
+    if nat_lt number 8 then (0x58 + number) ∷ [] else 0x41 ∷ (0x50 + number) ∷ []
 
--- Pops up to an end, at most so many.
-abbrev pub pops_within : ℕ → List ℕ → Option (List Reg)
-pops_within zero bytes = if is_end bytes then Some [] else None
-pops_within (suc n) bytes =
-    if is_end bytes then Some [] else
-    option_and_then (λ (found : Reg × ℕ). option_map (λ registers. found.0 ∷ registers) (pops_within n (drop found.1 bytes))) (pop_of bytes)
+-- Pops up to what ends them, at most so many.
+abbrev pub pops_within : (List ℕ → Bool) → ℕ → List ℕ → Option (List Reg)
+pops_within ends zero bytes = if ends bytes then Some [] else None
+pops_within ends (suc n) bytes =
+    if ends bytes then Some [] else
+    option_and_then (λ (found : Reg × ℕ). option_map (λ registers. found.0 ∷ registers) (pops_within ends n (drop found.1 bytes))) (pop_of bytes)
 
--- The registers that are popped up to an end, if nothing else stands before it.
-unfoldable pub pops_of : List ℕ → Option (List Reg)
-pops_of bytes = pops_within (length bytes) bytes
+-- The registers that are popped up to what ends them, if nothing else stands before it.
+unfoldable pub pops_until : (List ℕ → Bool) → List ℕ → Option (List Reg)
+pops_until ends bytes = pops_within ends (length bytes) bytes
+
+-- No bytes are left.
+abbrev pub is_empty : List ℕ → Bool
+is_empty [] = true
+is_empty (byte ∷ bytes) = false
+
+-- The registers that are popped, if the bytes are pops.
+abbrev pub pops_of : List ℕ → Option (List Reg)
+pops_of bytes = pops_until is_empty bytes
 
 -- What is left of an epilog: how it sets the stack pointer, and the registers that it pops.
 pub record EpilogLeft : Type 0 where
@@ -118,7 +119,7 @@ pub record EpilogLeft : Type 0 where
   pub pops : List Reg
 
 -- What some bytes are of an epilog, if they are.
-abbrev pub epilog_of : Option Reg → List ℕ → Option EpilogLeft
-epilog_of frame_register bytes =
+abbrev pub epilog_of : EpilogEnds → Option Reg → List ℕ → Option EpilogLeft
+epilog_of ends frame_register bytes =
     let adjustment = adjustment_of frame_register bytes in
-    option_map (λ pops. record { adjustment = adjustment.0; pops = pops }) (pops_of (drop adjustment.1 bytes))
+    option_map (λ pops. record { adjustment = adjustment.0; pops = pops }) (pops_until (is_end ends) (drop adjustment.1 bytes))

@@ -5,6 +5,8 @@ pub mod Infos
 pub mod CodesToUndo
 pub mod Machine
 pub mod Epilogs
+pub mod EpilogEnds
+pub mod EpilogInstructions
 pub mod EpilogRuns
 pub mod InfoViews
 pub mod MachineViews

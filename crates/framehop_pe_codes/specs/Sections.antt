@@ -3,6 +3,7 @@ use Rattle.std.specs.Borrow.{Bor}
 use Rattle.std.specs.Prelude.{ℕ, ◌-◌, ◌&&◌, nat_lt, nat_le, if◌then◌else◌, List, length, drop, Option, Some, None, option_and_then, option_map}
 use Rattle.std.specs.Option.{option_or}
 use Rattle.std.specs.declared.ops.Range.{Range}
+use Rattle.framehop_code_rules.specs.declared.CodeRules.{CodeRules}
 use Rattle.framehop_pe_codes.specs.Refusals.{PeResult, or_refusal}
 use Rattle.framehop_errors.specs.declared.pe.PeUnwinderError.TheVariants.{MissingUnwindInfoData, MissingInstructionData}
 use Rattle.framehop_pe_codes.specs.declared.sections.DataAtRvaRange.{DataAtRvaRange}
@@ -13,12 +14,13 @@ pub record PeSection : Type 0 where
   pub bytes : List ℕ
   pub rva_range : Range ℕ
 
--- The sections of a file that unwinding reads.
+-- The sections of a file that unwinding reads, and by which rules the code is read.
 pub record PeFile : Type 0 where
   pub pdata : List ℕ
   pub rdata : Option PeSection
   pub xdata : Option PeSection
   pub text : Option PeSection
+  pub code_rules : CodeRules
 
 -- A section that is lent.
 abbrev pub section_of : DataAtRvaRange → PeSection
@@ -35,6 +37,7 @@ file_of sections = record {
   rdata = section_lent sections.rdata;
   xdata = section_lent sections.xdata;
   text = section_lent sections.text;
+  code_rules = sections.code_rules;
 }
 
 -- The bytes from an address on: where it is in the range, and not past the data. At the very end of the data there are none.

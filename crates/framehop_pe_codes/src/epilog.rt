@@ -1,10 +1,12 @@
 //! Reading of epilogs.
 
-ghost use Rattle.std.specs.Prelude.{◌≡◌, ◌≤◌, ◌<◌, ◌↔◌, None, length, IsTrue, IsSome, IfSome};
-ghost use Rattle.framehop_pe_codes.specs.Epilogs.{begins_with, signed_below, short_add, long_add, short_lea, long_lea, lea, lea_spelling, lea_size, adjustment_of, number_of, is_pop, pop_of, is_end, pops_of, epilog_of};
-ghost use Rattle.framehop_pe_codes.specs.EpilogViews.{IsEpilog};
+ghost use Rattle.std.specs.Prelude.{◌≡◌, ◌≤◌, ◌<◌, None, length, IfSome};
+ghost use Rattle.framehop_pe_codes.specs.EpilogEnds.{begins_with, is_end};
+ghost use Rattle.framehop_pe_codes.specs.Epilogs.{short_add, long_add, short_lea, long_lea, lea, lea_spelling, lea_size, adjustment_of, number_of, is_pop, pop_of, pops_until, epilog_of};
+ghost use Rattle.framehop_pe_codes.specs.EpilogViews.{AreFirstPops, IsEpilog};
 
 use crate::code::{bytes_after, register_numbered, u32_at};
+use crate::ends::{EpilogEnds, begins_with, signed_byte, signed_long};
 use framehop_registers::x86_64::Reg;
 
 /// How an epilog sets the stack pointer before its pops.
@@ -23,30 +25,8 @@ pub enum SpAdjustment {
 pub struct Epilog<'a> {
     /// How it sets the stack pointer.
     pub adjustment: SpAdjustment,
-    /// The bytes of its pops and of its end.
+    /// The bytes of its pops.
     pub rest: &'a [u8],
-}
-
-// Whether bytes begin with these.
-#[tactic(auto, unfolding(crate::specs::Epilogs::begins_with))]
-fn begins_with(spelling: &[u8], bytes: &[u8]) -> bool
-    ensures value { result ≡ begins_with spelling.now bytes.now }
-    ensures within { IsTrue result → length spelling.now ≤ length bytes.now }
-{
-    bytes.starts_with(spelling)
-}
-
-// Whether bytes begin with a return or a jump out of the function.
-#[tactic(auto, unfolding(crate::specs::Epilogs::is_end))]
-pub(crate) fn is_end(bytes: &[u8]) -> bool
-    ensures { result ≡ is_end bytes.now }
-{
-    begins_with(&[0xc3], bytes)
-        || begins_with(&[0xf3, 0xc3], bytes)
-        || begins_with(&[0xeb], bytes)
-        || begins_with(&[0xe9], bytes)
-        || begins_with(&[0xff, 0x25], bytes)
-        || begins_with(&[0x48, 0xff, 0x25], bytes)
 }
 
 // Whether a byte is a pop of one of the first eight registers.
@@ -76,18 +56,17 @@ pub(crate) fn pop_of(bytes: &[u8]) -> Option<(Reg, usize)>
     None
 }
 
-// Whether some bytes are pops up to an end.
-fn are_pops(bytes: &[u8]) -> bool
-    ensures { IsTrue result ↔ IsSome (pops_of bytes.now) }
+// How many of some bytes are pops up to an end.
+fn pops_size(ends: EpilogEnds, bytes: &[u8]) -> Option<usize>
+    ensures some { IfSome result (AreFirstPops ends bytes.now) }
+    ensures none { result ≡ None → pops_until (is_end ends) bytes.now ≡ None }
 {
-    let mut rest = bytes;
-    'pops: while !is_end(rest) {
-        let Some((_register, size)) = pop_of(rest) else {
-            return false;
-        };
-        rest = bytes_after(rest, size);
+    let mut size = 0;
+    'pops: while !ends.are_at(bytes_after(bytes, size)) {
+        let (_register, more) = pop_of(bytes_after(bytes, size))?;
+        size += more;
     }
-    true
+    Some(size)
 }
 
 // An add of an immediate of one byte that isn't negative.
@@ -116,28 +95,6 @@ fn long_add(bytes: &[u8]) -> Option<(SpAdjustment, usize)>
         Some((SpAdjustment::Add(u32_at(bytes, 3)), 7))
     } else {
         None
-    }
-}
-
-// A byte as a signed number.
-fn signed_byte(number: u8) -> i64
-    ensures { result ≡ signed_below 256 number }
-{
-    if number < 128 {
-        i64::from(number)
-    } else {
-        i64::from(number) - 256
-    }
-}
-
-// Four bytes as a signed number.
-fn signed_long(number: u32) -> i64
-    ensures { result ≡ signed_below 4294967296 number }
-{
-    if number < 2147483648 {
-        i64::from(number)
-    } else {
-        i64::from(number) - 4294967296
     }
 }
 
@@ -255,18 +212,21 @@ fn adjustment_of(frame_register: Option<Reg>, bytes: &[u8]) -> (SpAdjustment, us
 }
 
 /// What some bytes are of an epilog, if they are: the bytes from an address to the end of its function, whose frame
-/// register is this. An epilog that ends otherwise than by `ret`, `rep ret`, `jmp` with a displacement or `jmp` through
-/// memory at RIP plus a displacement isn't recognised. A jump counts as an end wherever it leads, also within the function.
+/// register is this. An epilog that ends otherwise than `ends` say isn't recognised.
 #[inline(always)]
-pub fn read_epilog(frame_register: Option<Reg>, bytes: &[u8]) -> Option<Epilog<'_>>
-    ensures none { result ≡ None → epilog_of frame_register bytes.now ≡ None }
-    ensures some { IfSome result (λ epilog. IsEpilog frame_register epilog bytes.now) }
+pub fn read_epilog(
+    ends: EpilogEnds,
+    frame_register: Option<Reg>,
+    bytes: &[u8],
+) -> Option<Epilog<'_>>
+    ensures none { result ≡ None → epilog_of ends frame_register bytes.now ≡ None }
+    ensures some { IfSome result (λ epilog. IsEpilog ends frame_register epilog bytes.now) }
 {
     let (adjustment, size) = adjustment_of(frame_register, bytes);
     let rest = bytes_after(bytes, size);
-    if are_pops(rest) {
-        Some(Epilog { adjustment, rest })
-    } else {
-        None
-    }
+    let size = pops_size(ends, rest)?;
+    Some(Epilog {
+        adjustment,
+        rest: &rest[..size],
+    })
 }

@@ -2,7 +2,7 @@
 
 ghost use Rattle.std.specs.Prelude.{◌≡◌, ◌≤◌, ◌<◌, pos, ◌+ℤ◌, true, false, [], length, Some, None, IfSome, IsSome, IfErr, OnErr};
 ghost use Rattle.framehop_registers.specs.Callback.{OverWords};
-ghost use Rattle.framehop_pe_codes.specs.Epilogs.{pops_of, pop_of, is_end};
+ghost use Rattle.framehop_pe_codes.specs.Epilogs.{is_empty, pops_of, pop_of};
 ghost use Rattle.framehop_pe_codes.specs.EpilogRuns.{moved, adjusted};
 ghost use Rattle.framehop_pe_codes.specs.EpilogViews.{IsPoppedFirst, OverPops};
 ghost use Rattle.framehop_pe_codes.specs.MachineViews.{registers_seen};
@@ -10,22 +10,29 @@ ghost use Rattle.framehop_pe_codes.specs.Refusals.{IsOfStack};
 ghost use Rattle.framehop_pe_codes.specs.StepViews.{RunsPops, StepsByEpilog};
 
 use crate::code::bytes_after;
-use crate::epilog::{Epilog, SpAdjustment, is_end, pop_of};
+use crate::epilog::{Epilog, SpAdjustment, pop_of};
 use crate::machine::{pop, raise, return_to_caller};
 use framehop_errors::PeUnwinderError;
 use framehop_registers::x86_64::{Reg, UnwindRegsX86_64};
 
-// The pop that comes next, if it isn't the end.
+// Whether no bytes are left.
+fn is_empty(bytes: &[u8]) -> bool
+    ensures { result ≡ is_empty bytes.now }
+{
+    bytes.is_empty()
+}
+
+// The pop that comes next, if bytes are left.
 #[inline(always)]
 fn next_pop(bytes: &[u8]) -> Option<(Reg, usize)>
     requires { IsSome (pops_of bytes.now) }
     ensures next { IfSome result (λ found. pop_of bytes.now ≡ Some found) }
-    ensures more { IfSome result (λ found. is_end bytes.now ≡ false) }
-    ensures end { result ≡ None → is_end bytes.now ≡ true }
+    ensures more { IfSome result (λ found. is_empty bytes.now ≡ false) }
+    ensures end { result ≡ None → is_empty bytes.now ≡ true }
     ensures within { IfSome result (λ found. found.1 ≤ length bytes.now) }
     ensures some { IfSome result (λ found. 0 < found.1) }
 {
-    if is_end(bytes) { None } else { pop_of(bytes) }
+    if is_empty(bytes) { None } else { pop_of(bytes) }
 }
 
 // Pops the registers of an epilog one after the other, and returns.
@@ -113,7 +120,7 @@ pub fn next_popped(bytes: &[u8]) -> Option<(Reg, &[u8])>
         OverPops bytes.now (λ registers. IsPoppedFirst registers found.0 found.1.now)) }
     ensures less { IfSome result (λ found. length found.1.now < length bytes.now) }
 {
-    if is_end(bytes) {
+    if is_empty(bytes) {
         return None;
     }
     let (register, size) = pop_of(bytes)?;

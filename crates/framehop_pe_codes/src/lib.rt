@@ -6,9 +6,11 @@
 
 mod chain;
 mod code;
+mod ends;
 mod epilog;
 mod epilog_run;
 mod info;
+mod laws;
 mod listing;
 mod machine;
 mod operation;
@@ -17,9 +19,12 @@ mod sections;
 
 pub use chain::CodesLeft;
 pub use code::{read_code, u32_at};
+pub use ends::{EpilogEnds, RowCode};
 pub use epilog::{Epilog, SpAdjustment, read_epilog};
 pub use epilog_run::{next_popped, unwind_by_epilog};
+pub use framehop_code_rules::CodeRules;
 pub use info::{UnwindInfo, read_info};
+pub use laws::epilogs_are_read_as_spelled;
 pub use listing::{PrologCodes, first_info, read_chain, unwind_by_codes};
 pub use machine::FrameBase;
 pub use operation::{UnwindCode, UnwindOperation};

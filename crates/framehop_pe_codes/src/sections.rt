@@ -3,6 +3,7 @@
 ghost use Rattle.std.specs.Prelude.{◌≡◌, Ok, Err, IfOk, IfErr, IfSome, None};
 ghost use Rattle.framehop_pe_codes.specs.Sections.{bytes_from, file_of, section_bytes, section_lent, section_of, text_memory, unwind_info_memory};
 
+use framehop_code_rules::CodeRules;
 use framehop_errors::PeUnwinderError;
 use std::ops::Range;
 
@@ -29,6 +30,8 @@ pub struct PeSections<'a> {
     pub xdata: Option<&'a DataAtRvaRange<'a>>,
     /// `.text`, the code.
     pub text: Option<&'a DataAtRvaRange<'a>>,
+    /// By which rules the code is read.
+    pub code_rules: CodeRules,
 }
 
 impl<'a> DataAtRvaRange<'a> {

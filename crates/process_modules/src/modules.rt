@@ -6,7 +6,7 @@ ghost use Rattle.process_ranges.specs.Known.{is_untouched};
 ghost use Rattle.process_modules.specs.Modules.{IsPlace, IsRanges, module_ranges, no_modules, ranges_left};
 
 use backtrace_files::{FileSections, LoadedFile, loaded_code};
-use framehop::{FdeLookup, LoadOptions, Module, Session, UnwinderId, load_module};
+use framehop::{CodeRules, FdeLookup, LoadOptions, Module, Session, UnwinderId, load_module};
 use perf_processes::MappedFile;
 use process_ranges::{
     CodeRange, FoundRange, KnownRange, RangeCode, code_at, code_ranges, find_range, set_code,
@@ -119,6 +119,7 @@ fn module_of(
         lookup: FdeLookup::Auto,
         tables: None,
         debug_frame_beside: true,
+        code_rules: CodeRules::Published,
     };
     let addresses = range.start..range.end;
     let name = String::new(alloc);

@@ -16,6 +16,7 @@ use crate::registers::StatedRegisters;
 use crate::roads::roads_in;
 use crate::step::step_in;
 use crate::walk::walk_in;
+use framehop_code_rules::CodeRules;
 use framehop_rules::SlotCount;
 use json_program::check::Checked;
 use json_program::field::{has_only, number_field, text_field};
@@ -93,6 +94,8 @@ pub struct StatedOptions {
     pub tables: bool,
     /// Whether `.debug_frame` is used beside `.eh_frame`.
     pub debug_frame_beside: bool,
+    /// By which rules machine code is read.
+    pub code_rules: CodeRules,
 }
 
 /// A module of an unwinder, by its start.

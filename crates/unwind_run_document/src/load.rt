@@ -170,6 +170,7 @@ pub(crate) fn load_in(
         "lookup",
         "tables",
         "debug_frame_beside",
+        "code_rules",
     ];
     if !has_only(object, &names) {
         return Err(DecodeError::Fault(FaultName::BadCommand));

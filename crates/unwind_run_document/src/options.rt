@@ -3,9 +3,10 @@
 ghost use Rattle.std.specs.Prelude.{◌≡◌, codes};
 ghost use Rattle.serde_json.specs.Find.{get};
 ghost use Rattle.serde_json.specs.View.{view};
-ghost use Rattle.unwind_run_document.specs.Options.{flag_at, lookup_at, lookup_value, options_in};
+ghost use Rattle.unwind_run_document.specs.Options.{code_rules_at, code_rules_value, flag_at, lookup_at, lookup_value, options_in};
 
 use crate::command::{StatedLookup, StatedOptions};
+use framehop_code_rules::CodeRules;
 use json_program::FaultName;
 use json_program::check::{Checked, both};
 use json_program::field::text_in;
@@ -37,6 +38,30 @@ fn lookup_field(object: &Value) -> Checked<StatedLookup>
     }
 }
 
+// The rules of code that a value has to name.
+fn code_rules_in(value: &Value) -> Checked<CodeRules>
+    ensures { result ≡ code_rules_value (view value.now) }
+{
+    let text = text_in(value)?;
+    if text == "published" {
+        Ok(CodeRules::Published)
+    } else if text == "known" {
+        Ok(CodeRules::Known)
+    } else {
+        Err(FaultName::BadCommand)
+    }
+}
+
+// The rules of code of a load, `published` if none are stated.
+fn code_rules_field(object: &Value) -> Checked<CodeRules>
+    ensures { result ≡ code_rules_at (get (codes "code_rules") (view object.now)) }
+{
+    match object.get("code_rules") {
+        Some(value) => code_rules_in(value),
+        None => Ok(CodeRules::Published),
+    }
+}
+
 // Whether something is asked for, which it isn't if that isn't stated.
 fn flag_field(object: &Value, name: &str) -> Checked<bool>
     ensures { result ≡ flag_at (get name.now (view object.now)) }
@@ -54,10 +79,15 @@ pub(crate) fn options_in(object: &Value) -> Checked<StatedOptions>
     let lookup = lookup_field(object);
     let tables = flag_field(object, "tables");
     let beside = flag_field(object, "debug_frame_beside");
-    let ((lookup, tables), debug_frame_beside) = both(both(lookup, tables), beside)?;
+    let rules = code_rules_field(object);
+    let (((lookup, tables), debug_frame_beside), code_rules) = both(
+        both(both(lookup, tables), beside),
+        rules,
+    )?;
     Ok(StatedOptions {
         lookup,
         tables,
         debug_frame_beside,
+        code_rules,
     })
 }

@@ -2,6 +2,7 @@
 use Rattle.std.specs.Prelude.{ℕ, Bool, false, List, [], ◌∷◌, Option, Some, None, option_map, bytes_eq, if◌then◌else◌}
 use Rattle.std.specs.Option.{option_or}
 use Rattle.std.specs.declared.ops.Range.{Range}
+use Rattle.framehop_code_rules.specs.declared.CodeRules.TheVariants.{Published}
 use Rattle.framehop.specs.UnwindData.{UnwindData, unwind_data_with}
 use Rattle.framehop.specs.declared.load_options.FdeLookup.{FdeLookup}
 use Rattle.framehop.specs.declared.load_options.FdeLookup.TheVariants.{Auto, Index, Scan}
@@ -61,6 +62,7 @@ options_on arch options = record {
   lookup = lookup_of options.lookup;
   tables = tables_on arch options.tables;
   debug_frame_beside = options.debug_frame_beside;
+  code_rules = options.code_rules;
 }
 
 -- the unwind data of sections by their names, on an architecture
@@ -69,8 +71,8 @@ data_stated arch options base_svma sections segments = unwind_data_with (options
 
 -- nothing is asked for
 abbrev pub plain : StatedOptions
-plain = options_of stated.Auto false false
+plain = options_of stated.Auto false false Published
 
 -- each step is to scan the section of call frames
 abbrev pub scanning : StatedOptions
-scanning = options_of stated.Scan false false
+scanning = options_of stated.Scan false false Published

@@ -9,6 +9,7 @@ ghost use Rattle.unwind_run_document.specs.declared.command.FrameKind.TheVariant
 
 use crate::lines::step_line;
 use crate::perform::{DocumentModules, frame_address, word_at};
+use framehop_code_rules::CodeRules;
 use framehop_unwinder::Module;
 use std::alloc::{AllocError, Global};
 use std::fmt;
@@ -22,6 +23,7 @@ const PLAIN: StatedOptions = StatedOptions {
     lookup: StatedLookup::Auto,
     tables: false,
     debug_frame_beside: false,
+    code_rules: CodeRules::Published,
 };
 
 /// Each step is to scan the section of call frames.
@@ -29,6 +31,7 @@ const SCANNING: StatedOptions = StatedOptions {
     lookup: StatedLookup::Scan,
     tables: false,
     debug_frame_beside: false,
+    code_rules: CodeRules::Published,
 };
 
 /// The length of the module, if the addresses after its start are that many.

@@ -133,6 +133,7 @@ fn options_on<A: Tabulating>(options: StatedOptions) -> LoadOptions
         lookup: lookup_of(options.lookup),
         tables: tables_on::<A>(options.tables),
         debug_frame_beside: options.debug_frame_beside,
+        code_rules: options.code_rules,
     }
 }
 

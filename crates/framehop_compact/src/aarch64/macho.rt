@@ -8,6 +8,7 @@ use crate::aarch64::opcode::OpcodeArm64;
 use crate::analysis::analysed_rule;
 use crate::cui_unwind_result::CuiUnwindResult;
 use crate::macho::CompactUnwindInfoUnwinding;
+use framehop_code_rules::CodeRules;
 use framehop_compact_tables::Function;
 use framehop_errors::CompactUnwindInfoUnwinderError;
 use framehop_rules::aarch64::{ArchAarch64, UnwindRuleAarch64};
@@ -107,6 +108,7 @@ impl CompactUnwindInfoUnwinding for ArchAarch64 {
     }
 
     fn rule_for_stub_helper(
+        _code_rules: CodeRules,
         offset: u32,
     ) -> Result<CuiUnwindResult<UnwindRuleAarch64>, CompactUnwindInfoUnwinderError> {
         Ok(CuiUnwindResult::ExecRule(stub_helper_rule(offset)))

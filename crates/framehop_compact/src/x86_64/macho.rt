@@ -2,13 +2,14 @@
 
 ghost use Rattle.std.specs.Prelude.{◌≡◌};
 ghost use Rattle.framehop_compact.specs.Analysed.{lent_bytes};
-ghost use Rattle.framehop_compact.specs.Unwound.{body_rule, function_rule, uninformed_rule, stub_helper_rule};
+ghost use Rattle.framehop_compact.specs.Unwound.{body_rule, function_rule, helper_has_pushed, uninformed_rule, stub_helper_rule};
 
 use crate::analysis::analysed_rule;
 use crate::cui_unwind_result::CuiUnwindResult;
 use crate::macho::CompactUnwindInfoUnwinding;
 use crate::x86_64::frameless::{immediate_rule, indirect_rule};
 use crate::x86_64::opcode::OpcodeX86_64;
+use framehop_code_rules::CodeRules;
 use framehop_compact_tables::Function;
 use framehop_errors::CompactUnwindInfoUnwinderError;
 use framehop_rules::x86_64::{ArchX86_64, UnwindRuleX86_64};
@@ -76,12 +77,22 @@ fn function_rule(
     }
 }
 
-// The rule at an offset in `__stub_helper`: a part of 16 bytes that all stubs share, which pushes a word at 7, and then stubs of
-// 10 bytes, each of which pushes a word and jumps to it at 5.
-fn stub_helper_rule(offset: u32) -> UnwindRuleX86_64
-    ensures { result ≡ stub_helper_rule offset }
+// Where the part of `__stub_helper` that all stubs share has pushed its word.
+fn helper_has_pushed(code_rules: CodeRules) -> u32
+    ensures { result ≡ helper_has_pushed code_rules }
 {
-    if offset < 7 {
+    match code_rules {
+        CodeRules::Published => 7,
+        CodeRules::Known => 9,
+    }
+}
+
+// The rule at an offset in `__stub_helper`: a part of 16 bytes that all stubs share, which pushes a word, and then stubs of
+// 10 bytes, each of which pushes a word and jumps to it at 5.
+fn stub_helper_rule(code_rules: CodeRules, offset: u32) -> UnwindRuleX86_64
+    ensures { result ≡ stub_helper_rule code_rules offset }
+{
+    if offset < helper_has_pushed(code_rules) {
         UnwindRuleX86_64::OffsetSp { sp_offset_by_8: 2 }
     } else if offset < 16 {
         UnwindRuleX86_64::OffsetSp { sp_offset_by_8: 3 }
@@ -117,8 +128,9 @@ impl CompactUnwindInfoUnwinding for ArchX86_64 {
     }
 
     fn rule_for_stub_helper(
+        code_rules: CodeRules,
         offset: u32,
     ) -> Result<CuiUnwindResult<UnwindRuleX86_64>, CompactUnwindInfoUnwinderError> {
-        Ok(CuiUnwindResult::ExecRule(stub_helper_rule(offset)))
+        Ok(CuiUnwindResult::ExecRule(stub_helper_rule(code_rules, offset)))
     }
 }

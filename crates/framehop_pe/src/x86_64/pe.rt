@@ -7,7 +7,7 @@ ghost use Rattle.framehop_pe_codes.specs.Epilogs.{pops_of};
 ghost use Rattle.framehop_pe_codes.specs.Sections.{file_of};
 ghost use Rattle.framehop_pe.specs.PartViews.{IsEpilogRead, IsFoundRead, IsRead};
 ghost use Rattle.framehop_pe.specs.Rows.{IsIncreasing};
-ghost use Rattle.framehop_pe.specs.ToUndo.{ToUndo, code_to_end, epilog_at, to_undo_in, to_undo_at};
+ghost use Rattle.framehop_pe.specs.ToUndo.{ToUndo, code_to_end, ends_by, epilog_at, row_code, to_undo_in, to_undo_at};
 ghost use Rattle.framehop_pe.specs.UndoneViews.{Undoes};
 ghost use Rattle.framehop_pe.specs.declared.x86_64.pe.Undoing.TheVariants as undoing;
 
@@ -16,8 +16,8 @@ use crate::pe::PeUnwinding;
 use crate::rules::{rule_of_codes, rule_of_epilog};
 use framehop_errors::PeUnwinderError;
 use framehop_pe_codes::{
-    Epilog, PeSections, PrologCodes, first_info, read_chain, read_epilog, unwind_by_codes,
-    unwind_by_epilog,
+    CodeRules, Epilog, EpilogEnds, PeSections, PrologCodes, RowCode, first_info, read_chain,
+    read_epilog, unwind_by_codes, unwind_by_epilog,
 };
 use framehop_registers::x86_64::{Reg, UnwindRegsX86_64};
 use framehop_rules::UnwindResult;
@@ -53,26 +53,49 @@ fn code_to_end<'a>(
     Ok(&bytes[..size])
 }
 
-// The epilog that is left at an address, in a first frame.
+// The code of a row, by the next info of the chain that its info begins.
+fn row_code(function: RuntimeFunction, chained: Option<u32>) -> RowCode
+    ensures { result ≡ row_code function chained }
+{
+    RowCode {
+        begin: function.begin_address,
+        end: function.end_address,
+        begins_function: chained.is_none(),
+    }
+}
+
+// Which instructions end an epilog there.
+fn ends_by(code_rules: CodeRules, row: RowCode) -> EpilogEnds
+    ensures { result ≡ ends_by code_rules row }
+{
+    match code_rules {
+        CodeRules::Published => EpilogEnds::Published,
+        CodeRules::Known => EpilogEnds::Known(row),
+    }
+}
+
+// The epilog that is left at an address in the code of a row, in a first frame.
+#[tactic(auto, unfolding(framehop_pe_codes::specs::Sections::file_of))]
 #[inline(always)]
 fn epilog_at<'a>(
     sections: PeSections<'a>,
+    row: RowCode,
     frame_register: Option<Reg>,
     address: u32,
-    end: u32,
     is_first_frame: bool,
 ) -> Result<Option<Epilog<'a>>, PeUnwinderError>
-    requires { address ≤ end }
+    requires { address ≤ row.end }
     ensures ok { IfOk result (IsEpilogRead
-        (epilog_at (file_of sections.entry) frame_register address end is_first_frame)) }
+        (epilog_at (file_of sections.entry) row frame_register address is_first_frame)) }
     ensures err { IfErr result (λ e.
-        epilog_at (file_of sections.entry) frame_register address end is_first_frame ≡ Err e) }
+        epilog_at (file_of sections.entry) row frame_register address is_first_frame ≡ Err e) }
 {
     if !is_first_frame {
         return Ok(None);
     }
-    let bytes = code_to_end(sections, address, end)?;
-    Ok(read_epilog(frame_register, bytes))
+    let bytes = code_to_end(sections, address, row.end)?;
+    let ends = ends_by(sections.code_rules, row);
+    Ok(read_epilog(ends, frame_register, bytes))
 }
 
 // What is undone at an address in a function. Its first unwind info is read before all else.
@@ -91,8 +114,8 @@ fn to_undo_in<'a>(
         to_undo_in (file_of sections.entry) function address is_first_frame ≡ Err e) }
 {
     let info = first_info(sections, function.unwind_info_address)?;
-    let end = function.end_address;
-    let found = epilog_at(sections, info.frame_register, address, end, is_first_frame)?;
+    let row = row_code(function, info.chained);
+    let found = epilog_at(sections, row, info.frame_register, address, is_first_frame)?;
     match found {
         Some(epilog) => Ok(Undoing::Epilog(info.frame_register, epilog)),
         None => {

@@ -4,7 +4,7 @@ use crate::compact::worked::{Answer, TABLES, TEXT};
 use framehop_compact::aarch64::{ArchAarch64, UnwindRuleAarch64};
 use framehop_compact::x86_64::{ArchX86_64, UnwindRuleX86_64};
 use framehop_compact::{
-    CompactFormatError, CompactUnwindInfoUnwinder, CompactUnwindInfoUnwinderError,
+    CodeRules, CompactFormatError, CompactUnwindInfoUnwinder, CompactUnwindInfoUnwinderError,
     CompactUnwindInfoUnwinding, CuiUnwindResult, TextBytes,
 };
 use std::test::Fail;
@@ -15,16 +15,15 @@ const STUB: CompactUnwindInfoUnwinderError =
 /// The rule of a prologue after a push.
 const ONE_PUSH: UnwindRuleX86_64 = UnwindRuleX86_64::OffsetSp { sp_offset_by_8: 2 };
 
-/// The step in a file with the worked function, its code from an address on, stubs from 0x100 to 0x200, and helpers of stubs
-/// from 0x200 to 0x300.
+/// A file with the worked function, its code from an address on, stubs from 0x100 to 0x200, and helpers of stubs from 0x200
+/// to 0x300.
+fn unwinder(text: TextBytes<'_>) -> CompactUnwindInfoUnwinder<'_, ArchX86_64> {
+    CompactUnwindInfoUnwinder::new(&TABLES, Some(text), (0x100, 0x200), (0x200, 0x300))
+}
+
+/// The step in that file.
 fn step(text: TextBytes<'_>, address: u32, is_first_frame: bool) -> Answer {
-    let unwinder = CompactUnwindInfoUnwinder::<ArchX86_64>::new(
-        &TABLES,
-        Some(text),
-        (0x100, 0x200),
-        (0x200, 0x300),
-    );
-    unwinder.unwind_frame(address, is_first_frame)
+    unwinder(text).unwind_frame(address, is_first_frame)
 }
 
 /// An answer with a rule.
@@ -49,6 +48,20 @@ fn first_frames_can_be_anywhere(rt: HostRuntime) -> Result<(), Fail> {
     for (address, expected) in FIRST_FRAMES {
         let found = step(TextBytes::new(0x1000, &TEXT), address, true);
         assert!(rt; found == rule(expected), "{address:x} {found:?}");
+    }
+    Ok(())
+}
+
+#[test]
+fn code_is_read_by_the_rules_that_are_asked_for(rt: HostRuntime) -> Result<(), Fail> {
+    for (code_rules, sp_offset_by_8) in [(CodeRules::Published, 3), (CodeRules::Known, 2)] {
+        let found = unwinder(TextBytes::new(0x1000, &TEXT))
+            .with_code_rules(code_rules)
+            .unwind_frame(0x207, true);
+        assert!(rt;
+            found == rule(UnwindRuleX86_64::OffsetSp { sp_offset_by_8 }),
+            "{found:?}"
+        );
     }
     Ok(())
 }
@@ -83,20 +96,38 @@ fn machine_code_is_read_where_a_function_is_whole(rt: HostRuntime) -> Result<(),
 }
 
 /// Offsets in the helpers of stubs, and the rules there.
-static HELPERS: [(u32, UnwindRuleX86_64); 6] = [
+static HELPERS: [(u32, UnwindRuleX86_64); 8] = [
     (0x6, UnwindRuleX86_64::OffsetSp { sp_offset_by_8: 2 }),
-    (0x7, UnwindRuleX86_64::OffsetSp { sp_offset_by_8: 3 }),
+    (0x9, UnwindRuleX86_64::OffsetSp { sp_offset_by_8: 3 }),
+    (0xf, UnwindRuleX86_64::OffsetSp { sp_offset_by_8: 3 }),
     (0x10, UnwindRuleX86_64::JustReturn),
     (0x15, UnwindRuleX86_64::OffsetSp { sp_offset_by_8: 2 }),
     (0x1a, UnwindRuleX86_64::JustReturn),
     (0x1f, UnwindRuleX86_64::OffsetSp { sp_offset_by_8: 2 }),
+    (0x0, UnwindRuleX86_64::OffsetSp { sp_offset_by_8: 2 }),
 ];
+
+/// The offsets of the `push` that all stubs share, and how many words are above the stack pointer there: by the rules of the original,
+/// and by what the code does.
+static PUSH: [(u32, u16, u16); 3] = [(0x7, 3, 2), (0x8, 3, 2), (0x9, 3, 3)];
 
 #[test]
 fn helpers_of_stubs_have_rules(rt: HostRuntime) -> Result<(), Fail> {
     for (offset, expected) in HELPERS {
-        let found = ArchX86_64::rule_for_stub_helper(offset);
-        assert!(rt; found == rule(expected), "{offset:x} {found:?}");
+        for code_rules in [CodeRules::Published, CodeRules::Known] {
+            let found = ArchX86_64::rule_for_stub_helper(code_rules, offset);
+            assert!(rt; found == rule(expected), "{offset:x} {found:?}");
+        }
+    }
+    for (offset, published, known) in PUSH {
+        for (code_rules, sp_offset_by_8) in [
+            (CodeRules::Published, published),
+            (CodeRules::Known, known),
+        ] {
+            let found = ArchX86_64::rule_for_stub_helper(code_rules, offset);
+            let expected = UnwindRuleX86_64::OffsetSp { sp_offset_by_8 };
+            assert!(rt; found == rule(expected), "{offset:x} {found:?}");
+        }
     }
     let one = UnwindRuleAarch64::OffsetSp { sp_offset_by_16: 1 };
     for (offset, expected) in [
@@ -105,11 +136,13 @@ fn helpers_of_stubs_have_rules(rt: HostRuntime) -> Result<(), Fail> {
         (0x17, one),
         (0x18, UnwindRuleAarch64::NoOp),
     ] {
-        let found = ArchAarch64::rule_for_stub_helper(offset);
-        assert!(rt;
-            found == Ok(CuiUnwindResult::ExecRule(expected)),
-            "{offset:x}"
-        );
+        for code_rules in [CodeRules::Published, CodeRules::Known] {
+            let found = ArchAarch64::rule_for_stub_helper(code_rules, offset);
+            assert!(rt;
+                found == Ok(CuiUnwindResult::ExecRule(expected)),
+                "{offset:x}"
+            );
+        }
     }
     Ok(())
 }

@@ -1,8 +1,8 @@
 //! Steps in files with one function.
 
-/// Lines for the rows of a file, its unwind infos and its code, and for steps there: the address at which a step looks, whether its
-/// frame is the first, IP, SP and BP, and the end of what can be read of the stack; and the caller, with IP, SP, BP and RBX there, or
-/// the refusal. Numbers are hexadecimal, but for those of refusals.
+/// Lines for the rows of a file, its unwind infos and its code, for the rules by which code is read, and for steps there: the address
+/// at which a step looks, whether its frame is the first, IP, SP and BP, and the end of what can be read of the stack; and the caller,
+/// with IP, SP, BP and RBX there, or the refusal. Numbers are hexadecimal, but for those of refusals.
 pub static CASES: &str = "\
 # later frames undo the prolog, also by rows that do not increase
 pdata 001000001010000000200000
@@ -87,6 +87,154 @@ text 909090909090909090904883c408eb00
 step 100a first 10100a 40 20 80 => 100100 100100 50 20 0
 text 909090909090909090904883c4f8c300
 step 100a first 10100a 28 20 80 => 100200 100200 30 20 0
+# ends of epilogs: add rsp, 8 and a jump to the end of the row, before it, to its begin, into it, and one that is cut
+text 909090909090909090904883c408eb00
+rules published
+step 100a first 10100a 40 20 80 => 100100 100100 50 20 0
+rules known
+step 100a first 10100a 40 20 80 => 100100 100100 50 20 0
+text 909090909090909090904883c408ebef
+rules published
+step 100a first 10100a 40 20 80 => 100100 100100 50 20 0
+rules known
+step 100a first 10100a 40 20 80 => 100100 100100 50 20 0
+text 909090909090909090904883c408ebf0
+rules published
+step 100a first 10100a 40 20 80 => 100100 100100 50 20 0
+rules known
+step 100a first 10100a 40 20 80 => 100100 100100 50 20 0
+text 909090909090909090904883c408ebf1
+rules published
+step 100a first 10100a 40 20 80 => 100100 100100 50 20 0
+rules known
+step 100a first 10100a 40 20 80 => 70 70 48 20 0
+text 909090909090909090904883c408ebff
+rules published
+step 100a first 10100a 40 20 80 => 100100 100100 50 20 0
+rules known
+step 100a first 10100a 40 20 80 => 70 70 48 20 0
+text 909090909090904883c408e900000000
+rules published
+step 1007 first 101007 40 20 80 => 100100 100100 50 20 0
+rules known
+step 1007 first 101007 40 20 80 => 100100 100100 50 20 0
+text 909090909090904883c408e9efffffff
+rules published
+step 1007 first 101007 40 20 80 => 100100 100100 50 20 0
+rules known
+step 1007 first 101007 40 20 80 => 100100 100100 50 20 0
+text 909090909090904883c408e9f0ffffff
+rules published
+step 1007 first 101007 40 20 80 => 100100 100100 50 20 0
+rules known
+step 1007 first 101007 40 20 80 => 100100 100100 50 20 0
+text 909090909090904883c408e9f1ffffff
+rules published
+step 1007 first 101007 40 20 80 => 100100 100100 50 20 0
+rules known
+step 1007 first 101007 40 20 80 => 70 70 48 20 0
+text 909090909090904883c408e9ffffffff
+rules published
+step 1007 first 101007 40 20 80 => 100100 100100 50 20 0
+rules known
+step 1007 first 101007 40 20 80 => 70 70 48 20 0
+text 909090909090909090904883c408e900
+rules published
+step 100a first 10100a 40 20 80 => 100100 100100 50 20 0
+rules known
+step 100a first 10100a 40 20 80 => 70 70 48 20 0
+text 90909090909090909090904883c408eb
+rules published
+step 100b first 10100b 40 20 80 => 100100 100100 50 20 0
+rules known
+step 100b first 10100b 40 20 80 => 70 70 48 20 0
+# indirect jumps: through memory at RIP, with REX.W and without, a call, and one that is cut
+text 9090909090904883c408ff2500000000
+rules published
+step 1006 first 101006 40 20 80 => 100100 100100 50 20 0
+rules known
+step 1006 first 101006 40 20 80 => 100100 100100 50 20 0
+text 90909090904883c40848ff2500000000
+rules published
+step 1005 first 101005 40 20 80 => 100100 100100 50 20 0
+rules known
+step 1005 first 101005 40 20 80 => 100100 100100 50 20 0
+text 9090909090909090904883c40848ffe0
+rules published
+step 1009 first 101009 40 20 80 => 70 70 48 20 0
+rules known
+step 1009 first 101009 40 20 80 => 100100 100100 50 20 0
+text 9090909090909090904883c40849ffe3
+rules published
+step 1009 first 101009 40 20 80 => 70 70 48 20 0
+rules known
+step 1009 first 101009 40 20 80 => 100100 100100 50 20 0
+text 90909090909090904883c4084fff6008
+rules published
+step 1008 first 101008 40 20 80 => 70 70 48 20 0
+rules known
+step 1008 first 101008 40 20 80 => 100100 100100 50 20 0
+text 9090909090909090904883c40848ffd0
+rules published
+step 1009 first 101009 40 20 80 => 70 70 48 20 0
+rules known
+step 1009 first 101009 40 20 80 => 70 70 48 20 0
+text 909090909090909090904883c40848ff
+rules published
+step 100a first 10100a 40 20 80 => 70 70 48 20 0
+rules known
+step 100a first 10100a 40 20 80 => 70 70 48 20 0
+text 9090909090909090904883c40847ffe0
+rules published
+step 1009 first 101009 40 20 80 => 70 70 48 20 0
+rules known
+step 1009 first 101009 40 20 80 => 70 70 48 20 0
+text 9090909090909090904883c40850ffe0
+rules published
+step 1009 first 101009 40 20 80 => 70 70 48 20 0
+rules known
+step 1009 first 101009 40 20 80 => 70 70 48 20 0
+text 909090909090909090904883c408ffe0
+rules published
+step 100a first 10100a 40 20 80 => 70 70 48 20 0
+rules known
+step 100a first 10100a 40 20 80 => 70 70 48 20 0
+text 9090909090909090904883c40848fee0
+rules published
+step 1009 first 101009 40 20 80 => 70 70 48 20 0
+rules known
+step 1009 first 101009 40 20 80 => 70 70 48 20 0
+# returns
+xdata 01000005
+text 90909090909090909090904883c408c3
+rules published
+step 100b first 10100b 40 20 80 => 100100 100100 50 20 0
+rules known
+step 100b first 10100b 40 20 80 => 100100 100100 50 20 0
+text 909090909090909090904883c408f3c3
+rules published
+step 100a first 10100a 40 20 80 => 100100 100100 50 20 0
+rules known
+step 100a first 10100a 40 20 80 => 100100 100100 50 20 0
+# where the info is a chained one no function begins: a jump to the begin of the row is code of the body
+xdata 2100000000100000101000001020000001000005
+text 909090909090909090904883c408ebef
+rules published
+step 100a first 10100a 40 20 80 => 100100 100100 50 20 0
+rules known
+step 100a first 10100a 40 20 80 => 100100 100100 50 20 0
+text 909090909090909090904883c408ebf0
+rules published
+step 100a first 10100a 40 20 80 => 100100 100100 50 20 0
+rules known
+step 100a first 10100a 40 20 80 => 70 70 48 20 0
+text 909090909090909090904883c408ebf1
+rules published
+step 100a first 10100a 40 20 80 => 100100 100100 50 20 0
+rules known
+step 100a first 10100a 40 20 80 => 70 70 48 20 0
+rules published
+xdata 01000005
 # pop rax; pop rax; ret has no rule, since RAX isn't callee-saved; its words are told by their addresses
 text 9090909090909090909090905858f3c3
 step 100c first 10100c 38 20 80 => 100100 10100c 50 20 0

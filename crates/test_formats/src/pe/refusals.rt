@@ -1,7 +1,7 @@
 //! Unwind info by its sections, and what isn't there.
 
 use crate::pe::worked::{INFO, ROW};
-use framehop_pe::{DataAtRvaRange, PeSections, PeUnwinderError, PeUnwinding};
+use framehop_pe::{CodeRules, DataAtRvaRange, PeSections, PeUnwinderError, PeUnwinding};
 use framehop_registers::aarch64::UnwindRegsAarch64;
 use framehop_rules::aarch64::ArchAarch64;
 use std::test::Fail;
@@ -26,6 +26,7 @@ fn unwind_info_is_sought_in_rdata_first(rt: HostRuntime) -> Result<(), Fail> {
         rdata,
         xdata,
         text,
+        code_rules: CodeRules::Published,
     };
     assert!(rt; matches!(sections.unwind_info_memory_at_rva(0x2002), Ok([0x13, 0x14])));
     assert!(rt; matches!(sections.unwind_info_memory_at_rva(0x2004), Ok([])));
@@ -55,6 +56,7 @@ fn aarch64_is_not_supported(rt: HostRuntime) -> Result<(), Fail> {
         rdata,
         xdata,
         text,
+        code_rules: CodeRules::Published,
     };
     let mut regs = UnwindRegsAarch64::new(1, 2, 3);
     let mut read = |_address: u64| Err(());

@@ -2,6 +2,7 @@
 
 use crate::pe::cases::CASES;
 use crate::pe::worked::{Frame, ROW, caller};
+use framehop_pe::CodeRules;
 use std::alloc::Global;
 use std::process::Abort;
 use std::str::SplitWhitespace;
@@ -16,6 +17,7 @@ fn number(rt: &impl Abort, words: &mut SplitWhitespace<'_>) -> Result<u64, Fail>
 fn assert_step<'x>(
     rt: &impl Abort,
     alloc: Global,
+    code_rules: CodeRules,
     sections: (&'x [u8], &'x [u8], Option<&'x [u8]>),
     line: &str,
 ) -> Result<(), Fail> {
@@ -30,7 +32,7 @@ fn assert_step<'x>(
         bp: number(rt, &mut words)?,
         end: number(rt, &mut words)?,
     };
-    let found = caller(rt, alloc, sections, frame)?;
+    let found = caller(rt, alloc, code_rules, sections, frame)?;
     assert!(rt; found.as_str() == wanted, "{line}: {found}");
     Ok(())
 }
@@ -40,10 +42,13 @@ fn steps(rt: HostRuntime) -> Result<(), Fail> {
     let mut pdata = Vec::new(rt.alloc());
     let mut xdata = Vec::new(rt.alloc());
     let mut text = Vec::new(rt.alloc());
+    let mut code_rules = CodeRules::Published;
     let mut count = 0u32;
     for line in CASES.lines() {
         let (kind, rest) = line.split_once(' ').unwrap_or((line, ""));
         match kind {
+            "rules" if rest == "known" => code_rules = CodeRules::Known,
+            "rules" => code_rules = CodeRules::Published,
             "pdata" => pdata = hex::decode(rt.alloc(), rest.as_bytes())?,
             "xdata" => xdata = hex::decode(rt.alloc(), rest.as_bytes())?,
             "text" => text = hex::decode(rt.alloc(), rest.as_bytes())?,
@@ -53,13 +58,13 @@ fn steps(rt: HostRuntime) -> Result<(), Fail> {
                 } else {
                     Some(text.as_slice())
                 };
-                assert_step(&rt, rt.alloc(), (&pdata, &xdata, code), rest)?;
+                assert_step(&rt, rt.alloc(), code_rules, (&pdata, &xdata, code), rest)?;
                 count = count.wrapping_add(1);
             }
             _ => {}
         }
     }
-    assert!(rt; count == 47);
+    assert!(rt; count == 103);
     Ok(())
 }
 
@@ -78,11 +83,12 @@ fn chain_of(alloc: Global, count: u8) -> Result<Vec<u8>, Fail> {
 #[test]
 fn chains_have_at_most_32_infos(rt: HostRuntime) -> Result<(), Fail> {
     let line = "1008 later 101009 10 20 80 => 100300 100300 18 20 0";
+    let rules = CodeRules::Published;
     for count in [1, 31, 32] {
         let chain = chain_of(rt.alloc(), count)?;
-        assert_step(&rt, rt.alloc(), (&ROW, chain.as_slice(), None), line)?;
+        assert_step(&rt, rt.alloc(), rules, (&ROW, chain.as_slice(), None), line)?;
     }
     let chain = chain_of(rt.alloc(), 33)?;
     let line = "1008 later 101009 10 20 80 => UnwindInfoParseError";
-    assert_step(&rt, rt.alloc(), (&ROW, chain.as_slice(), None), line)
+    assert_step(&rt, rt.alloc(), rules, (&ROW, chain.as_slice(), None), line)
 }

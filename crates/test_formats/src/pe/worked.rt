@@ -3,7 +3,9 @@
 ghost use Rattle.std.specs.Prelude.{◌≡◌, ◌↔◌, IsTrue};
 ghost use Rattle.framehop_pe.specs.Rows.{IsIncreasing};
 
-use framehop_pe::{DataAtRvaRange, PeSections, PeUnwinderError, PeUnwinding, pdata_is_increasing};
+use framehop_pe::{
+    CodeRules, DataAtRvaRange, PeSections, PeUnwinderError, PeUnwinding, pdata_is_increasing,
+};
 use framehop_rules::x86_64::{ArchX86_64, Reg, UnwindRegsX86_64, UnwindRuleX86_64};
 use framehop_rules::{UnwindResult, UnwindRule};
 use std::alloc::{AllocError, Global};
@@ -43,8 +45,9 @@ pub struct Frame {
 /// What a step gives, before a rule is executed.
 type Answer = Result<UnwindResult<UnwindRuleX86_64>, PeUnwinderError>;
 
-/// A file with these rows, this `.xdata` and this `.text`.
+/// A file with these rows, this `.xdata` and this `.text`, whose code is read by these rules.
 fn sections_of<'a>(
+    code_rules: CodeRules,
     pdata: &'a [u8],
     infos: &'a DataAtRvaRange<'a>,
     text: Option<&'a DataAtRvaRange<'a>>,
@@ -60,12 +63,14 @@ fn sections_of<'a>(
         rdata,
         xdata,
         text,
+        code_rules,
     }
 }
 
-/// The step from a frame over the worked stack, in a file with these rows, this `.xdata` at 0x2000 and this `.text` at 0x1000;
-/// and the registers after it.
+/// The step from a frame over the worked stack, in a file with these rows, this `.xdata` at 0x2000 and this `.text` at 0x1000, whose
+/// code is read by these rules; and the registers after it.
 fn step<'x>(
+    code_rules: CodeRules,
     (pdata, xdata, text): (&'x [u8], &'x [u8], Option<&'x [u8]>),
     frame: Frame,
 ) -> (Answer, UnwindRegsX86_64) {
@@ -78,7 +83,7 @@ fn step<'x>(
         rva_range: 0x1000..0x1010,
     };
     let text = if text.is_some() { Some(&code) } else { None };
-    let sections = sections_of(pdata, &infos, text);
+    let sections = sections_of(code_rules, pdata, &infos, text);
     let mut regs = UnwindRegsX86_64::new(frame.ip, frame.sp, frame.bp);
     let mut read = |address: u64| word_below(frame.end, address);
     let answer = ArchX86_64::unwind_frame(
@@ -96,10 +101,11 @@ fn step<'x>(
 pub fn caller<'x>(
     rt: &impl Abort,
     alloc: Global,
+    code_rules: CodeRules,
     sections: (&'x [u8], &'x [u8], Option<&'x [u8]>),
     frame: Frame,
 ) -> Result<String, AllocError> {
-    let (answer, mut regs) = step(sections, frame);
+    let (answer, mut regs) = step(code_rules, sections, frame);
     let mut read = |address: u64| word_below(frame.end, address);
     let to = match answer {
         Ok(UnwindResult::ExecRule(rule)) => {

@@ -9,7 +9,7 @@ use Rattle.framehop_registers.specs.declared.x86_64.unwindregs.UnwindRegsX86_64.
 use Rattle.framehop_registers.proofs.Laws.{over_both}
 use Rattle.framehop_errors.specs.declared.pe.PeUnwinderError.TheVariants.{MissingStackData}
 use Rattle.framehop_pe_codes.specs.EpilogRuns.{caller_by_pops}
-use Rattle.framehop_pe_codes.specs.Epilogs.{pops_of}
+use Rattle.framehop_pe_codes.specs.Epilogs.{is_empty, pops_of}
 use Rattle.framehop_pe_codes.specs.Machine.{popped, returned}
 use Rattle.framehop_pe_codes.specs.MachineViews.{registers_seen}
 use Rattle.framehop_pe_codes.specs.Refusals.{PeResult, result_and_then}
@@ -36,14 +36,14 @@ pub returns-in_err-pop-clause-run : goal.returns-in_err-pop-clause-run
 returns-in_err-pop-clause-run g c =
     over_both c.pops.invariant.run c.in_err-pop.ensures.popped (λ words so_far came registers is.
     let (all, left, same) = so_far registers is in
-    let cons = pops-cons c.pops.rest.now c.in-Some.register c.in-Some.size c.in-Some.ensures.more c.in-Some.ensures.next in
+    let cons = pops-cons is_empty c.pops.rest.now c.in-Some.register c.in-Some.size c.in-Some.ensures.more c.in-Some.ensures.next in
     let split = splits c.in-Some.register (pops_of (drop c.in-Some.size c.pops.rest.now)) all (sym cons ∙ left) in
     let from = err_from_is_err_and c.from_residual.result c.from_residual.ensures.1 in
     rw (from.1, from.2) (pop-run c.in-Some.register split.more all c.pops.regs words c.sp-sp.result (Err c.in_err-pop.field-0.0) c.pop.new.regs split.all_is c.sp-sp.ensures came ∙ same))
 
 pub pops-preserved : goal.pops-preserved
 pops-preserved g c =
-    let cons = pops-cons c.pops.rest.now c.in-Some.register c.in-Some.size c.in-Some.ensures.more c.in-Some.ensures.next in
+    let cons = pops-cons is_empty c.pops.rest.now c.in-Some.register c.in-Some.size c.in-Some.ensures.more c.in-Some.ensures.next in
     rw c.bytes_after-rest.ensures (record {
       callable = c.in_ok-pop.ensures.callable;
       pops = left-some c.in-Some.register c.pops.rest.now c.in-Some.size cons c.pops.invariant.pops;
@@ -63,4 +63,4 @@ pub returns-clause-run : goal.returns-clause-run
 returns-clause-run g c =
     over_both c.pops.invariant.run c.return_to_caller.ensures.returned (λ words so_far came registers is.
     let (all, left, same) = so_far registers is in
-    came ∙ end-run c.pops.rest.now all c.pops.regs words (pops-end c.pops.rest.now (c.in_default.ensures.end refl)) left ∙ same)
+    came ∙ end-run c.pops.rest.now all c.pops.regs words (pops-end is_empty c.pops.rest.now (c.in_default.ensures.end refl)) left ∙ same)
