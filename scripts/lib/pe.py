@@ -118,8 +118,9 @@ def hexadecimal(number):
     return f"{number:#x}"
 
 
-def load_of(pe, start, names=(".pdata", ".rdata", ".xdata", ".text", ".eh_frame")):
-    """The command that loads a file's module at an address, with the sections of these names. Files keep eight letters of a name."""
+def load_of(pe, start, names=(".pdata", ".rdata", ".xdata", ".text", ".eh_frame"), code_rules="published"):
+    """The command that loads a file's module at an address, with the sections of these names, and code by these rules. Files keep eight
+    letters of a name."""
     sections = []
     for name in names:
         if name[:8] in pe.sections:
@@ -127,7 +128,12 @@ def load_of(pe, start, names=(".pdata", ".rdata", ".xdata", ".text", ".eh_frame"
             first, end = hexadecimal(pe.base + rva), hexadecimal(pe.base + rva + len(data))
             sections.append({"name": name, "start": first, "end": end, "data": data.hex()})
     load = {"do": "load", "unwinder": 0, "name": "m", "start": hexadecimal(start), "end": hexadecimal(start + pe.size)}
-    return load | {"base": hexadecimal(start), "base_svma": hexadecimal(pe.base), "sections": sections}
+    return load | {"base": hexadecimal(start), "base_svma": hexadecimal(pe.base), "sections": sections} | code_rules_of(code_rules)
+
+
+def code_rules_of(rules):
+    """The field of a load for rules of code, if they aren't those that it has without one."""
+    return {} if rules == "published" else {"code_rules": rules}
 
 
 def document_of(commands):
