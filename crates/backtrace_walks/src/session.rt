@@ -11,8 +11,8 @@ use crate::arch::FileModules;
 use backtrace_files::{FileSections, LoadedCode, LoadedFile, loaded_code};
 use core_files::MappedFile;
 use framehop::{
-    CodeRules, DwarfUnwindContext, FdeLookup, Generations, LoadOptions, Module, Session,
-    UnwinderId, Unwinding, load_module,
+    CodeRules, FdeLookup, Generations, LoadOptions, Module, Session, UnwinderId, Unwinding,
+    load_module,
 };
 use std::alloc::{AllocError, Global};
 
@@ -70,7 +70,7 @@ fn empty_session<'a, A: Unwinding>(alloc: Global) -> Result<Session<FileModules<
 {
     let mut session = Session::new(alloc, Generations::new());
     add_unwinder::<A>(&mut session, alloc)?;
-    session.add_cache(alloc, DwarfUnwindContext::new(alloc)?)?;
+    session.add_cache(alloc)?;
     Ok(session)
 }
 

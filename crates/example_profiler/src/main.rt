@@ -10,7 +10,7 @@ mod profiler;
 
 use anyhow::Result;
 use framehop::x86_64::ArchX86_64;
-use framehop::{BySections, DwarfUnwindContext, MayAllocateDuringUnwind};
+use framehop::{BySections, MayAllocateDuringUnwind};
 use process::{SAMPLES, library, other_library};
 use profiler::Profiler;
 
@@ -19,8 +19,7 @@ use profiler::Profiler;
 type Sections = BySections<ArchX86_64, Vec<u8>, MayAllocateDuringUnwind>;
 
 fn main(rt: HostRuntime) -> Result<()> {
-    let unwind_context = DwarfUnwindContext::new(rt.alloc())?;
-    let mut profiler = Profiler::<Sections>::new(rt.alloc(), unwind_context)?;
+    let mut profiler = Profiler::<Sections>::new(rt.alloc())?;
     let one = profiler.start(rt.alloc(), library(rt.alloc())?)?;
     let other = profiler.start(rt.alloc(), other_library(rt.alloc())?)?;
     for process in [one, other, one] {

@@ -43,12 +43,12 @@ impl Frames {
 }
 
 impl<A: ModuleUnwinding> Profiler<A> {
-    /// A profiler of no process, with this room for its cache.
-    pub fn new(alloc: Global, unwind_context: A::UnwindContext) -> Result<Self>
+    /// A profiler of no process.
+    pub fn new(alloc: Global) -> Result<Self>
         ensures { IfOk result (λ profiler. FollowsNone profiler.session) }
     {
         let mut session = Session::empty(alloc);
-        let cache = session.add_cache(alloc, unwind_context)?;
+        let cache = session.add_cache(alloc)?;
         Ok(Profiler { session, cache })
     }
 

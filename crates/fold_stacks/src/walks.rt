@@ -9,7 +9,7 @@ ghost use Rattle.fold_stacks.specs.Walks.{AreFrames};
 use crate::files::SampledFiles;
 use crate::frames::UserFrame;
 use framehop::x86_64::SlotCount;
-use framehop::{CacheId, DwarfUnwindContext, Generations, Session};
+use framehop::{CacheId, Generations, Session};
 use framehop_registers::FrameAddress;
 use perf_files::Sample;
 use process_modules::{CodePlace, ProcessModules};
@@ -33,7 +33,7 @@ impl<A: SampleArch> Walker<A> {
     pub(crate) fn new(alloc: Global) -> Result<Self, AllocError> {
         let slots = SlotCount::new(SLOTS).unwrap_or(SlotCount::original());
         let mut session = Session::new(alloc, Generations::new());
-        let cache = session.add_cache_with_slots(alloc, DwarfUnwindContext::new(alloc)?, slots)?;
+        let cache = session.add_cache_with_slots(alloc, slots)?;
         Ok(Walker { session, cache })
     }
 }

@@ -36,7 +36,7 @@ pub type UnwinderAarch64<D, P = MayAllocateDuringUnwind> = UnwinderInternal<
 pub type SessionAarch64<D, P = MayAllocateDuringUnwind> = Session<BySections<ArchAarch64, D, P>>;
 
 /// What steps on aarch64 keep and reuse: a cache of unwind rules, and storage that steps evaluate rows in.
-/// A step or a walk takes the [`Cache`] in it.
+/// A step or a walk takes the [`Cache`] in it, which `rules` lends.
 #[derive(Drop)]
 pub struct CacheAarch64<P: AllocationPolicy = MayAllocateDuringUnwind>(
     pub Cache<UnwindRuleAarch64, DwarfUnwindContext<P>>,
@@ -73,6 +73,13 @@ impl<P: AllocationPolicy> CacheAarch64<P> {
     {
         let unwind_context = DwarfUnwindContext::new(alloc)?;
         Ok(CacheAarch64(Cache::with_slots(alloc, unwind_context, slots)?))
+    }
+
+    /// The cache as a step or a walk takes it. No clause says what it is afterwards: a proof about that takes field 0.
+    pub fn rules(&mut self) -> &mut Cache<UnwindRuleAarch64, DwarfUnwindContext<P>>
+        ensures { result.now ≡ self.old.0 }
+    {
+        &mut self.0
     }
 
     /// How many look-ups found a rule so far, and why the others found none.

@@ -22,6 +22,7 @@ use framehop_rules::aarch64::ArchAarch64;
 use framehop_rules::x86_64::ArchX86_64;
 use framehop_rules::{Arch, UnwindResult};
 use framehop_unwinder::{ModuleUnwinding, UnwindFailure};
+use std::alloc::{AllocError, Global};
 use std::marker::PhantomData;
 
 /// An architecture whose modules are unwound by their sections, in each format that is read.
@@ -66,6 +67,10 @@ impl<A: Unwinding, D: SectionBytes + Drop, P: AllocationPolicy> ModuleUnwinding
 
     ghost asks_memory = { AsksExpression A.MeetsExpression
         (format_meanings A.rows (table_methods A.pe_attempt A.compact)) P.limits };
+
+    fn unwind_context(alloc: Global) -> Result<DwarfUnwindContext<P>, AllocError> {
+        DwarfUnwindContext::new(alloc)
+    }
 
     fn unwind_frame<F: FnMut(u64) -> Result<u64, ()>>(
         unwind_data: &ModuleUnwindData<D>,

@@ -45,7 +45,7 @@ pub use framehop_errors::{
 pub use framehop_index::{DwarfCfiIndex, IndexLookup, UnwindSectionType};
 pub use framehop_modules::{
     ExplicitModuleSectionInfo, Generations, GenerationsExhausted, LoadError, ModuleSectionInfo,
-    SectionBytes,
+    PeModuleSectionInfo, SectionBytes,
 };
 pub use framehop_pe::{
     DataAtRvaRange, PeSections, PeUnwinding, RuntimeFunction, pdata_is_increasing, pdata_lookup,

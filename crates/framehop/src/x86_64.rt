@@ -38,7 +38,7 @@ pub type UnwinderX86_64<D, P = MayAllocateDuringUnwind> = UnwinderInternal<
 pub type SessionX86_64<D, P = MayAllocateDuringUnwind> = Session<BySections<ArchX86_64, D, P>>;
 
 /// What steps on x86_64 keep and reuse: a cache of unwind rules, and storage that steps evaluate rows in.
-/// A step or a walk takes the [`Cache`] in it.
+/// A step or a walk takes the [`Cache`] in it, which `rules` lends.
 #[derive(Drop)]
 pub struct CacheX86_64<P: AllocationPolicy = MayAllocateDuringUnwind>(
     pub Cache<UnwindRuleX86_64, DwarfUnwindContext<P>>,
@@ -75,6 +75,13 @@ impl<P: AllocationPolicy> CacheX86_64<P> {
     {
         let unwind_context = DwarfUnwindContext::new(alloc)?;
         Ok(CacheX86_64(Cache::with_slots(alloc, unwind_context, slots)?))
+    }
+
+    /// The cache as a step or a walk takes it. No clause says what it is afterwards: a proof about that takes field 0.
+    pub fn rules(&mut self) -> &mut Cache<UnwindRuleX86_64, DwarfUnwindContext<P>>
+        ensures { result.now ≡ self.old.0 }
+    {
+        &mut self.0
     }
 
     /// How many look-ups found a rule so far, and why the others found none.

@@ -9,8 +9,8 @@ ghost use Rattle.framehop_c.specs.Sessions.{Does, DoesIn};
 
 use crate::handle::SessionHandle;
 use crate::session::AnySession;
-use framehop::{CacheStats, DwarfUnwindContext, MayAllocateDuringUnwind};
-use framehop_calls::status::{BAD_ARGUMENT, NO_VALUE, OUT_OF_MEMORY};
+use framehop::CacheStats;
+use framehop_calls::status::{BAD_ARGUMENT, NO_VALUE};
 use framehop_rules::SlotCount;
 use std::alloc::Global;
 
@@ -55,12 +55,9 @@ impl AnySession {
     fn add_cache(&mut self, alloc: Global, slots: SlotCount, cache: &mut u64) -> u32
         ensures { Does (λ R. AddsCache result slots cache.old cache.new) self.old self.new }
     {
-        let Ok(room) = DwarfUnwindContext::<MayAllocateDuringUnwind>::new(alloc) else {
-            return OUT_OF_MEMORY;
-        };
         match self {
-            AnySession::X86_64(session) => session.add_cache(alloc, room, slots, cache),
-            AnySession::Aarch64(session) => session.add_cache(alloc, room, slots, cache),
+            AnySession::X86_64(session) => session.add_cache(alloc, slots, cache),
+            AnySession::Aarch64(session) => session.add_cache(alloc, slots, cache),
         }
     }
 

@@ -9,20 +9,14 @@ use framehop_unwinder::{CacheId, ModuleUnwinding};
 use std::alloc::Global;
 
 impl<A: ModuleUnwinding> CountedSession<A> {
-    /// Makes a cache of so many slots, with this room, and writes its number.
-    pub fn add_cache(
-        &mut self,
-        alloc: Global,
-        room: A::UnwindContext,
-        slots: SlotCount,
-        number: &mut u64,
-    ) -> u32
+    /// Makes a cache of so many slots, and writes its number.
+    pub fn add_cache(&mut self, alloc: Global, slots: SlotCount, number: &mut u64) -> u32
         ensures { AddsCache result slots number.old number.new self.old self.new }
     {
         if self.caches == usize::MAX {
             return OUT_OF_MEMORY;
         }
-        match self.session.add_cache_with_slots(alloc, room, slots) {
+        match self.session.add_cache_with_slots(alloc, slots) {
             Ok(_) => {
                 *number = self.caches as u64;
                 self.caches += 1;

@@ -138,7 +138,7 @@ pub fn new_cache<A: ModuleUnwinding>(
         session.old result session.new }
     ensures stays { StaysUnlessDone result session.old session.new }
 {
-    match session.add_cache_with_slots(alloc, unwind_context, slots) {
+    match session.add_cache_with_context(alloc, unwind_context, slots) {
         Ok(_) => Answer::Added,
         Err(_) => Answer::OutOfMemory,
     }

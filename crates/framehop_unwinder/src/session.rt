@@ -109,23 +109,35 @@ impl<A: ModuleUnwinding> Session<A> {
         self.has_unwinder(unwinder) && self.has_cache(cache)
     }
 
-    /// Makes a new cache of 509 slots, with this room.
-    pub fn add_cache(
-        &mut self,
-        alloc: Global,
-        unwind_context: A::UnwindContext,
-    ) -> Result<CacheId, AllocError>
+    /// Makes a new cache of 509 slots.
+    pub fn add_cache(&mut self, alloc: Global) -> Result<CacheId, AllocError>
         ensures number { IfOk result (λ id. cache_number id ≡ length self.old.caches) }
         ensures ok { OnOk result (self.new ≡ with_cache self.old 509) }
         ensures histories { OnOk result
             (GainNewHistory 509 self.old.caches self.new.caches) }
         ensures refused { OnErr result (self.new ≡ self.old) }
     {
-        self.add_cache_with_slots(alloc, unwind_context, SlotCount::original())
+        self.add_cache_with_slots(alloc, SlotCount::original())
     }
 
-    /// Makes a new cache of so many slots, with this room.
+    /// Makes a new cache of so many slots.
     pub fn add_cache_with_slots(
+        &mut self,
+        alloc: Global,
+        slots: SlotCount,
+    ) -> Result<CacheId, AllocError>
+        ensures number { IfOk result (λ id. cache_number id ≡ length self.old.caches) }
+        ensures ok { OnOk result (self.new ≡ with_cache self.old slots) }
+        ensures histories { OnOk result
+            (GainNewHistory slots self.old.caches self.new.caches) }
+        ensures refused { OnErr result (self.new ≡ self.old) }
+    {
+        let unwind_context = A::unwind_context(alloc)?;
+        self.add_cache_with_context(alloc, unwind_context, slots)
+    }
+
+    /// Makes a new cache of so many slots, with room for attempts that the caller made.
+    pub fn add_cache_with_context(
         &mut self,
         alloc: Global,
         unwind_context: A::UnwindContext,

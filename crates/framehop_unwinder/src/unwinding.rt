@@ -7,6 +7,7 @@ ghost use Rattle.framehop_rules.specs.UnwindResults.{HasValidRule};
 ghost use Rattle.framehop_unwinder.specs.Trials.{AnswersAttempt, has_wanted};
 
 use framehop_rules::{Arch, UnwindResult};
+use std::alloc::{AllocError, Global};
 use std::fmt::Debug;
 
 /// Why a module says nothing of a frame. The fallback rule is executed then, unless the step is out
@@ -39,6 +40,9 @@ pub trait ModuleUnwinding: Arch {
 
     /// The modules' data, relative addresses and kinds of frames for which one may.
     ghost asks_memory: { Self.UnwindData → ℕ → Bool → Type 0 };
+
+    /// New room for attempts. Fails if it fails to allocate.
+    fn unwind_context(alloc: Global) -> Result<Self::UnwindContext, AllocError>;
 
     /// What a module says of a frame at an address relative to the module's base: a rule, or the
     /// return address, with the registers of the caller; or why it says nothing, with the registers

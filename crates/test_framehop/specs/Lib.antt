@@ -1,1 +1,2 @@
 pub mod PeFiles
+pub mod WorkedHeader

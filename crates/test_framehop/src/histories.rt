@@ -5,12 +5,12 @@ ghost use Rattle.std.specs.List.{All};
 ghost use Rattle.framehop_histories.specs.CommandViews.{OfCallback};
 
 use crate::steps::module_with;
-use framehop::aarch64::{self, ArchAarch64, UnwindRegsAarch64};
+use framehop::aarch64::{self, SessionAarch64, UnwindRegsAarch64};
 use framehop::histories::{Answer, Command};
-use framehop::x86_64::{self, ArchX86_64, SlotCount, UnwindRegsX86_64};
+use framehop::x86_64::{self, SessionX86_64, SlotCount, UnwindRegsX86_64};
 use framehop::{
-    AllocationPolicy, BySections, DwarfUnwindContext, FrameAddress, Generations,
-    MayAllocateDuringUnwind, MustNotAllocateDuringUnwind, Session,
+    AllocationPolicy, DwarfUnwindContext, FrameAddress, MayAllocateDuringUnwind,
+    MustNotAllocateDuringUnwind, Session,
 };
 use std::alloc::{AllocError, Global};
 use std::collections::VecDeque;
@@ -126,10 +126,7 @@ fn holds_on_x86_64<P: AllocationPolicy>(alloc: Global) -> Result<bool, Fail> {
     let module = module_with(alloc, &WORKED)?;
     let context: DwarfUnwindContext<P> = DwarfUnwindContext::new(alloc)?;
     let regs = UnwindRegsX86_64::new(0x101000, 0x10, 0x20);
-    let mut session: Session<BySections<ArchX86_64, Vec<u8>, P>> = Session::new(
-        alloc,
-        Generations::new(),
-    );
+    let mut session: SessionX86_64<Vec<u8>, P> = Session::empty(alloc);
     let mut commands = commands_of(alloc, module, context, regs, word_at)?;
     let answers = x86_64::perform(alloc, &mut session, &mut commands)?;
     Ok(are_wanted(&answers))
@@ -140,10 +137,7 @@ fn holds_on_aarch64<P: AllocationPolicy>(alloc: Global) -> Result<bool, Fail> {
     let module = module_with(alloc, &PUSHES)?;
     let context: DwarfUnwindContext<P> = DwarfUnwindContext::new(alloc)?;
     let regs = UnwindRegsAarch64::new(0x100300, 0x10, 0x20);
-    let mut session: Session<BySections<ArchAarch64, Vec<u8>, P>> = Session::new(
-        alloc,
-        Generations::new(),
-    );
+    let mut session: SessionAarch64<Vec<u8>, P> = Session::empty(alloc);
     let mut commands = commands_of(alloc, module, context, regs, word_at)?;
     let answers = aarch64::perform(alloc, &mut session, &mut commands)?;
     Ok(are_wanted(&answers))

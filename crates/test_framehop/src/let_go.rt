@@ -2,8 +2,8 @@
 
 use framehop::x86_64::{SessionX86_64, UnwindRegsX86_64};
 use framehop::{
-    CacheId, DwarfUnwindContext, ExplicitModuleSectionInfo, FrameAddress, LoadOptions,
-    SectionBytes, Session, UnwinderId, load_module,
+    CacheId, ExplicitModuleSectionInfo, FrameAddress, LoadOptions, SectionBytes, Session,
+    UnwinderId, load_module,
 };
 use std::alloc::Global;
 use std::rc::Rc;
@@ -86,7 +86,7 @@ fn modules_are_freed(rt: HostRuntime) -> Result<(), Fail> {
     let alloc = rt.alloc();
     let section = section(alloc)?;
     let mut session: Processes = Session::empty(alloc);
-    let cache = session.add_cache(alloc, DwarfUnwindContext::new(alloc)?)?;
+    let cache = session.add_cache(alloc)?;
     let first = process(alloc, &mut session)?;
     load(alloc, &mut session, first, &section)?;
     assert!(rt; Rc::strong_count(&section) == 2 && steps_by_row(&mut session, first, cache)?);
@@ -109,7 +109,7 @@ fn processes_come_and_go(rt: HostRuntime) -> Result<(), Fail> {
     let alloc = rt.alloc();
     let section = section(alloc)?;
     let mut session: Processes = Session::empty(alloc);
-    let cache = session.add_cache(alloc, DwarfUnwindContext::new(alloc)?)?;
+    let cache = session.add_cache(alloc)?;
     for number in 0..1000usize {
         let process = process(alloc, &mut session)?;
         load(alloc, &mut session, process, &section)?;

@@ -2,7 +2,10 @@
 #![tactic(auto)]
 
 #[cfg(test)]
+mod caches;
+#[cfg(test)]
 mod cfi_index;
+mod headers;
 #[cfg(test)]
 mod histories;
 #[cfg(test)]
@@ -25,4 +28,5 @@ mod steps;
 #[cfg(test)]
 mod tables;
 
+pub use headers::worked_header_is_truthful;
 pub use pe_files::PeFile;

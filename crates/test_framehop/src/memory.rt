@@ -8,9 +8,9 @@ use crate::sessions::{Sections, try_module_of};
 use crate::steps::{self, Registers, frame_at, try_step};
 use framehop::x86_64::{ArchX86_64, CacheX86_64, UnwindRegsX86_64, UnwinderX86_64};
 use framehop::{
-    AllocationPolicy, BySections, CacheId, CacheStats, DwarfUnwindContext, Error, FrameAddress,
-    Generations, LoadError, MayAllocateDuringUnwind, Module, ModuleUnwinding,
-    MustNotAllocateDuringUnwind, Session, StackWalk, Unwinder, UnwinderId,
+    AllocationPolicy, BySections, CacheId, CacheStats, Error, FrameAddress, Generations, LoadError,
+    MayAllocateDuringUnwind, Module, ModuleUnwinding, MustNotAllocateDuringUnwind,
+    PeModuleSectionInfo, Session, StackWalk, Unwinder, UnwinderId,
 };
 use std::alloc::{AllocError, Global};
 use std::process::Abort;
@@ -20,7 +20,7 @@ use test_rules::word_at;
 
 /// Where modules start that are unwound by an index, by a header, by `.debug_frame`, by compact unwind info and by `.pdata`, with a rule
 /// and code by code, and one without sections. Each has 0x10000 addresses.
-static STARTS: [u64; 7] = [
+pub static STARTS: [u64; 7] = [
     0x100000, 0x200000, 0x300000, 0x400000, 0x500000, 0x600000, 0x700000,
 ];
 
@@ -157,16 +157,25 @@ fn sections_at(start: u64, both: &[u8]) -> Sections<'_> {
     sections
 }
 
+/// A PE file whose unwind info is undone code by code.
+fn undone() -> PeModuleSectionInfo<&'static [u8]> {
+    PeModuleSectionInfo {
+        pdata: Some(ROW.as_slice()),
+        xdata_svma: Some(0x2000..0x3000),
+        xdata: Some(UNDONE.as_slice()),
+        ..Default::default()
+    }
+}
+
 /// The module that starts there.
-fn module_at(alloc: Global, start: u64, both: &[u8]) -> Result<Module<&[u8]>, AllocError> {
+pub fn module_at(alloc: Global, start: u64, both: &[u8]) -> Result<Module<&[u8]>, AllocError> {
     let range = start..start.saturating_add(0x10000);
-    let xdata = match start {
-        0x500000 => INFO.as_slice(),
-        0x600000 => UNDONE.as_slice(),
-        _ => return try_module_of(alloc, sections_at(start, both), range),
-    };
-    let pdata = ROW.as_slice();
-    try_module_of(alloc, PeFile { pdata, xdata }, range)
+    let (pdata, xdata) = (ROW.as_slice(), INFO.as_slice());
+    match start {
+        0x500000 => try_module_of(alloc, PeFile { pdata, xdata }, range),
+        0x600000 => try_module_of(alloc, undone(), range),
+        _ => try_module_of(alloc, sections_at(start, both), range),
+    }
 }
 
 /// Loads a module. If its list can't grow, the session is as it was, and the module is given back; then it is loaded again.
@@ -194,20 +203,10 @@ fn session_of<'a, P: AllocationPolicy>(
     if session.add_unwinder(alloc).is_err() && session.add_unwinder(alloc).is_err() {
         return Err(AllocError);
     }
-    if add_cache(alloc, &mut session).is_err() {
-        add_cache(alloc, &mut session)?;
+    if session.add_cache(alloc).is_err() {
+        session.add_cache(alloc)?;
     }
     Ok(session)
-}
-
-/// Makes a new cache.
-fn add_cache<'a, P: AllocationPolicy>(
-    alloc: Global,
-    session: &mut Session<BySections<ArchX86_64, &'a [u8], P>>,
-) -> Result<(), AllocError> {
-    let context = DwarfUnwindContext::new(alloc)?;
-    session.add_cache(alloc, context)?;
-    Ok(())
 }
 
 /// Loads the module that starts there. What is refused once is asked for again.

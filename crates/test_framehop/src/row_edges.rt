@@ -6,7 +6,7 @@ mod section;
 use crate::sessions::{Sections, Stepped, module_of, step_twice};
 use crate::steps::frame_at;
 use framehop::aarch64::{ArchAarch64, PtrAuthMask, UnwindRegsAarch64};
-use framehop::{BySections, DwarfUnwindContext, MustNotAllocateDuringUnwind};
+use framehop::{BySections, MustNotAllocateDuringUnwind};
 use section::{Base, Cfa, Column, Row, with_row};
 use std::alloc::Global;
 use std::process::Abort;
@@ -34,13 +34,12 @@ fn step(alloc: Global, row: &Row, is_first: bool) -> Result<Stepped<(u64, u64, u
         ..Default::default()
     };
     let module = module_of(alloc, sections, 0x0..0x2000)?;
-    let context = DwarfUnwindContext::new(alloc)?;
     let address = frame_at(is_first, if is_first { 0x1004 } else { 0x1005 });
     let regs = UnwindRegsAarch64::new_with_ptr_auth_mask(PtrAuthMask::new_24_40(), 0x1234, SP, FP);
     let (return_address, regs, is_hit) = step_twice::<
         BySections<ArchAarch64, &[u8], MustNotAllocateDuringUnwind>,
         _,
-    >(alloc, module, context, address, regs, word_at)?;
+    >(alloc, module, address, regs, word_at)?;
     Ok((return_address, (regs.lr(), regs.sp(), regs.fp()), is_hit))
 }
 

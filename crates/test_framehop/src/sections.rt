@@ -2,8 +2,7 @@
 use crate::sessions::{Sections, step_twice};
 use framehop::x86_64::{ArchX86_64, UnwindRegsX86_64};
 use framehop::{
-    BySections, DwarfUnwindContext, FrameAddress, LoadOptions, MayAllocateDuringUnwind, Module,
-    load_module,
+    BySections, FrameAddress, LoadOptions, MayAllocateDuringUnwind, Module, load_module,
 };
 use std::alloc::Global;
 use std::test::Fail;
@@ -48,13 +47,12 @@ fn debug_frame_is_used_beside_eh_frame(rt: HostRuntime) -> Result<(), Fail> {
         ((0x101025, 0x10, 0x20), (0x100300, 0x18, 0x20)),
     ] {
         let module = module_with_both(alloc)?;
-        let context = DwarfUnwindContext::new(alloc)?;
         let address = FrameAddress::from_instruction_pointer(ip);
         let regs = UnwindRegsX86_64::new(ip, sp, bp);
         let (return_address, regs, is_hit) = step_twice::<
             BySections<ArchX86_64, &'static [u8], MayAllocateDuringUnwind>,
             _,
-        >(alloc, module, context, address, regs, word_at)?;
+        >(alloc, module, address, regs, word_at)?;
         assert!(rt; return_address == Some(caller.0) && is_hit);
         assert!(rt; (regs.ip(), regs.sp(), regs.bp()) == caller);
     }

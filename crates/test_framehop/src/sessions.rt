@@ -3,9 +3,9 @@ ghost use Rattle.std.specs.Prelude.{true};
 
 use framehop::x86_64::{ArchX86_64, UnwindRegsX86_64};
 use framehop::{
-    BySections, CacheId, DwarfUnwindContext, Error, ExplicitModuleSectionInfo, FrameAddress,
-    Generations, LoadOptions, MayAllocateDuringUnwind, Module, ModuleSectionInfo, ModuleUnwinding,
-    Session, StackWalk, UnwinderId, load_module,
+    BySections, CacheId, Error, ExplicitModuleSectionInfo, FrameAddress, Generations, LoadOptions,
+    MayAllocateDuringUnwind, Module, ModuleSectionInfo, ModuleUnwinding, Session, StackWalk,
+    UnwinderId, load_module,
 };
 use std::alloc::{AllocError, Global};
 use std::ops::Range;
@@ -38,14 +38,13 @@ pub fn module_of<'a, I: ModuleSectionInfo<&'a [u8]> + Drop>(
     Ok(try_module_of(alloc, sections, range)?)
 }
 
-/// A session of one unwinder, which has this module, and of one cache with this context.
+/// A session of one unwinder, which has this module, and of one cache.
 fn session_of<A: ModuleUnwinding>(
     alloc: Global,
     module: framehop_unwinder::Module<A::UnwindData>,
-    context: A::UnwindContext,
 ) -> Result<(Session<A>, UnwinderId, CacheId), Fail> {
     let mut session = Session::new(alloc, Generations::new());
-    let cache = session.add_cache(alloc, context)?;
+    let cache = session.add_cache(alloc)?;
     let Ok(unwinder) = session.add_unwinder(alloc) else {
         return Err(Fail::new("no unwinder"));
     };
@@ -59,14 +58,13 @@ fn session_of<A: ModuleUnwinding>(
 pub fn step_twice<A: ModuleUnwinding, F: FnMut(u64) -> Result<u64, ()>>(
     alloc: Global,
     module: framehop_unwinder::Module<A::UnwindData>,
-    context: A::UnwindContext,
     address: FrameAddress,
     regs: A::UnwindRegs,
     mut word_at: F,
 ) -> Result<Stepped<A::UnwindRegs>, Fail>
     requires { F.IsAlwaysCallable word_at }
 {
-    let (mut session, unwinder, cache) = session_of::<A>(alloc, module, context)?;
+    let (mut session, unwinder, cache) = session_of::<A>(alloc, module)?;
     let mut first = regs;
     session.step(unwinder, cache, address, &mut first, &mut word_at)??;
     let mut last = regs;
@@ -96,10 +94,9 @@ fn walks_have_the_callers_registers_after_a_return_address_of_0(
         ..Default::default()
     };
     let module = module_of(rt.alloc(), sections, 0x100000..0x102000)?;
-    let context = DwarfUnwindContext::new(rt.alloc())?;
     let (mut session, unwinder, cache) = session_of::<
         BySections<ArchX86_64, &[u8], MayAllocateDuringUnwind>,
-    >(rt.alloc(), module, context)?;
+    >(rt.alloc(), module)?;
     let mut read_stack = |at: u64| Ok(if at == 0x10 { 0 } else { 0x100300 });
     let regs = UnwindRegsX86_64::new(0x101000, 0x10, 0x20);
     let mut walk = StackWalk::new(0x101000, regs);

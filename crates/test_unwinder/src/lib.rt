@@ -17,5 +17,5 @@ mod walks;
 #[cfg(test)]
 mod worked;
 
-pub use callers::answers_to;
+pub use callers::{addresses_of, answers_to};
 pub use tables::{Row, Said, Tables};

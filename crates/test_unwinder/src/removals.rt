@@ -37,7 +37,7 @@ fn step(
 fn unwinders_are_let_go(rt: HostRuntime) -> Result<(), Fail> {
     let alloc = rt.alloc();
     let mut session: ToySession = Session::new(alloc, Generations::new());
-    let cache = session.add_cache(alloc, ())?;
+    let cache = session.add_cache(alloc)?;
     let old = added(session.add_unwinder(alloc))?;
     load(alloc, &mut session, old, Said::StubRule)?;
     assert!(rt; step(&mut session, old, cache) == Ok(Ok(Some(0x100300))));
@@ -64,13 +64,13 @@ fn caches_are_let_go(rt: HostRuntime) -> Result<(), Fail> {
     let alloc = rt.alloc();
     let mut session: ToySession = Session::new(alloc, Generations::new());
     let unwinder = added(session.add_unwinder(alloc))?;
-    let old = session.add_cache(alloc, ())?;
-    let other = session.add_cache(alloc, ())?;
+    let old = session.add_cache(alloc)?;
+    let other = session.add_cache(alloc)?;
     for _ in 0..2 {
         assert!(rt; step(&mut session, unwinder, old)?.is_ok());
     }
     session.remove_cache(old)?;
-    let new = session.add_cache(alloc, ())?;
+    let new = session.add_cache(alloc)?;
     assert!(rt; session.has_cache(new) && session.has_cache(other) && !session.has_cache(old));
     assert!(rt; step(&mut session, unwinder, new)?.is_ok());
     assert!(rt; session.stats(new)?.misses() == 1 && session.stats(new)?.hits() == 0);
@@ -92,7 +92,7 @@ fn caches_are_let_go(rt: HostRuntime) -> Result<(), Fail> {
 fn processes_come_and_go(rt: HostRuntime) -> Result<(), Fail> {
     let alloc = rt.alloc();
     let mut session: ToySession = Session::new(alloc, Generations::new());
-    let cache = session.add_cache(alloc, ())?;
+    let cache = session.add_cache(alloc)?;
     for number in 0..2000usize {
         let unwinder = added(session.add_unwinder(alloc))?;
         assert!(rt; unwinder == unwinder && session.has_unwinder(UnwinderId::numbered(number)));

@@ -5,6 +5,7 @@ ghost use Rattle.test_unwinder.specs.Tables.{said_at};
 
 use framehop_rules::{Arch, UnwindResult, UnwindRule};
 use framehop_unwinder::{ModuleUnwinding, UnwindFailure};
+use std::alloc::{AllocError, Global};
 use std::marker::PhantomData;
 
 /// What a row says.
@@ -72,6 +73,10 @@ impl<A: Arch> ModuleUnwinding for Tables<A> {
     ghost takes_memory = { true };
 
     ghost asks_memory = { λ rows address first. said_at rows.items address ≡ Some WantsMemory };
+
+    fn unwind_context(_alloc: Global) -> Result<(), AllocError> {
+        Ok(())
+    }
 
     fn unwind_frame<F: FnMut(u64) -> Result<u64, ()>>(
         unwind_data: &Vec<Row>,

@@ -1,11 +1,12 @@
 //! Walks, on both architectures.
+use crate::callers::addresses_of;
 use crate::tables::{Said, Tables};
 use crate::worked::{added, first, loaded, module, word_at};
 use framehop_registers::aarch64::UnwindRegsAarch64;
 use framehop_registers::x86_64::UnwindRegsX86_64;
-use framehop_rules::Arch;
 use framehop_rules::aarch64::ArchAarch64;
 use framehop_rules::x86_64::ArchX86_64;
+use framehop_rules::{Arch, SlotCount};
 use framehop_unwinder::{
     Cache, Error, FrameAddress, Generations, Session, StackWalk, Unwinder, UnwinderInternal,
 };
@@ -55,7 +56,7 @@ fn walks_by_moves_of_a_session(rt: HostRuntime) -> Result<(), Fail> {
     let alloc = rt.alloc();
     let mut session: Session<Tables<ArchX86_64>> = Session::new(alloc, Generations::new());
     let unwinder = added(session.add_unwinder(alloc))?;
-    let cache = session.add_cache(alloc, ())?;
+    let cache = session.add_cache(alloc)?;
     let mut walk = StackWalk::new(0x101000, UnwindRegsX86_64::new(0x101000, 0x10, 0x20));
     let mut read_stack = |at: u64| word_at(at);
     for (frame, sp) in [
@@ -86,7 +87,7 @@ fn walks_from_a_frame_that_was_found(rt: HostRuntime) -> Result<(), Fail> {
     let alloc = rt.alloc();
     let mut session: Session<Tables<ArchX86_64>> = Session::new(alloc, Generations::new());
     let unwinder = added(session.add_unwinder(alloc))?;
-    let cache = session.add_cache(alloc, ())?;
+    let cache = session.add_cache(alloc)?;
     let mut read_stack = |at: u64| word_at(at);
     for found in [Some(first(0x100300)), later(0x100300)] {
         let Some(found) = found else {
@@ -110,7 +111,7 @@ fn frames_of_a_session(rt: HostRuntime) -> Result<(), Fail> {
     let unwinder = added(session.add_unwinder(alloc))?;
     let there = module(alloc, 0x100000, 0x102000, 0x1000, Said::StubRule)?;
     loaded(session.load(unwinder, there)?)?;
-    let cache = session.add_cache(alloc, ())?;
+    let cache = session.add_cache(alloc)?;
     let mut read_stack = |at: u64| word_at(at);
     for _ in 0..2 {
         assert!(rt; session.has(unwinder, cache));
@@ -123,7 +124,55 @@ fn frames_of_a_session(rt: HostRuntime) -> Result<(), Fail> {
     }
     assert!(rt; session.stats(cache)?.hits() == 4 && session.stats(cache)?.misses() == 4);
     let kept = session.occupancy(cache)?;
-    assert!(rt; kept.slot_count == 509 && kept.rule_count == 4);
+    assert!(rt; kept.slot_count == 509 && kept.rule_count == 4 && session.has(unwinder, cache));
+    let regs = UnwindRegsX86_64::new(0x101000, 0x10, 0x20);
+    let mut frames = session.iter_frames(unwinder, cache, 0x101000, regs, &mut read_stack);
+    let first_two = addresses_of(alloc, &mut frames, 2)?;
+    let others = addresses_of(alloc, &mut frames, 9)?;
+    assert!(rt; first_two.as_slice() == [0x101000, 0x100300].as_slice());
+    assert!(rt; others.as_slice() == [0x100200, 0x100100].as_slice());
+    Ok(())
+}
+
+/// A session's caches have the slots that they are made with.
+#[test]
+fn caches_of_a_session_of_any_size(rt: HostRuntime) -> Result<(), Fail> {
+    let alloc = rt.alloc();
+    let mut session: Session<Tables<ArchX86_64>> = Session::empty(alloc);
+    let unwinder = added(session.add_unwinder(alloc))?;
+    for count in [2, 16, 509, 16384] {
+        let slots = SlotCount::new(count).ok_or("slots")?;
+        let cache = session.add_cache_with_slots(alloc, slots)?;
+        for _ in 0..2 {
+            let mut regs = UnwindRegsX86_64::new(0x101000, 0x10, 0x20);
+            let mut read_stack = |at: u64| word_at(at);
+            let frame = first(0x101000);
+            let answer = session.step(unwinder, cache, frame, &mut regs, &mut read_stack)?;
+            assert!(rt; answer == Ok(Some(0x100200)));
+        }
+        let kept = session.occupancy(cache)?;
+        assert!(rt; kept.slot_count == count && kept.rule_count == 1);
+        assert!(rt; session.stats(cache)?.hits() == 1);
+    }
+    Ok(())
+}
+
+/// A step whose rule is in the cache reads the words of that rule, each once.
+#[test]
+fn hits_read_the_words_of_their_rule(rt: HostRuntime) -> Result<(), Fail> {
+    let unwinder = unwinder_with::<ArchX86_64>(rt.alloc(), Said::StubRule)?;
+    let mut cache = Cache::new(rt.alloc(), ())?;
+    for hits in 0..3 {
+        let mut read = (0u64, 0);
+        let mut read_stack = |at: u64| {
+            read = (read.0.saturating_add(1), at);
+            word_at(at)
+        };
+        let mut regs = UnwindRegsX86_64::new(0x101000, 0x10, 0x20);
+        let answer = unwinder.unwind_frame(first(0x101000), &mut regs, &mut cache, &mut read_stack);
+        assert!(rt; answer == Ok(Some(0x100300)) && read == (1, 0x10));
+        assert!(rt; cache.stats().hits() == hits);
+    }
     Ok(())
 }
 
@@ -135,7 +184,7 @@ fn frames_of_a_session_end_at_0(rt: HostRuntime) -> Result<(), Fail> {
     let unwinder = added(session.add_unwinder(alloc))?;
     let there = module(alloc, 0x100000, 0x102000, 0x1000, Said::NullCaller)?;
     loaded(session.load(unwinder, there)?)?;
-    let cache = session.add_cache(alloc, ())?;
+    let cache = session.add_cache(alloc)?;
     let mut read_stack = |at: u64| word_at(at);
     let null = Err(Error::ReturnAddressIsNull);
     let unread = Err(Error::CouldNotReadStack(0x1000));
@@ -163,7 +212,7 @@ fn walks_stay_at_return_addresses_of_0(rt: HostRuntime) -> Result<(), Fail> {
     let unwinder = added(session.add_unwinder(alloc))?;
     let there = module(alloc, 0x100000, 0x102000, 0x1000, Said::NullCaller)?;
     loaded(session.load(unwinder, there)?)?;
-    let cache = session.add_cache(alloc, ())?;
+    let cache = session.add_cache(alloc)?;
     let mut read_stack = |at: u64| word_at(at);
     let mut walk = StackWalk::at(first(0x101000), UnwindRegsX86_64::new(0x101000, 0x10, 0x20));
     for _ in 0..2 {

@@ -48,9 +48,6 @@ pub(crate) trait DocumentModules: ModuleUnwinding {
     /// The text of registers, each after its name.
     fn registers_text(alloc: Global, registers: Self::UnwindRegs) -> Result<String, AllocError>
         ensures { IfOk result (λ text. string_bytes text ≡ forms.text registers) };
-
-    /// The context for the attempts of a new cache.
-    fn unwind_context(alloc: Global) -> Result<Self::UnwindContext, AllocError>;
 }
 
 /// Carries out a command, and returns what it writes.

@@ -10,8 +10,7 @@ ghost use Rattle.unwind_run_document.specs.declared.command.StatedSection.{State
 use crate::arch::DocumentArch;
 use crate::perform::DocumentModules;
 use framehop::{
-    AllocationPolicy, BySections, DwarfUnwindContext, FdeLookup, LoadOptions, ModuleUnwindData,
-    TableArch, Tabulating,
+    AllocationPolicy, BySections, FdeLookup, LoadOptions, ModuleUnwindData, TableArch, Tabulating,
 };
 use framehop_modules::ModuleSectionInfo;
 use std::alloc::{AllocError, Global};
@@ -161,9 +160,5 @@ impl<A: DocumentArch, P: AllocationPolicy> DocumentModules for BySections<A, Vec
 
     fn registers_text(alloc: Global, registers: A::UnwindRegs) -> Result<String, AllocError> {
         A::registers_text(alloc, registers)
-    }
-
-    fn unwind_context(alloc: Global) -> Result<DwarfUnwindContext<P>, AllocError> {
-        DwarfUnwindContext::new(alloc)
     }
 }

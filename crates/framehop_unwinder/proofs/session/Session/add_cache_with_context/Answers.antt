@@ -10,7 +10,7 @@ use Rattle.framehop_unwinder.specs.State.{SessionState, sets_of_all}
 use Rattle.framehop_unwinder.proofs.Histories.{push-have, new-has}
 use Rattle.framehop_unwinder.proofs.Sessions.{order-of-caches}
 use Rattle.framehop_unwinder.proofs.Sound.{sound_cache}
-use Rattle.framehop_unwinder.proofs.session.Session.add_cache_with_slots.Goals as goal
+use Rattle.framehop_unwinder.proofs.session.Session.add_cache_with_context.Goals as goal
 
 pub invariant_of-self-2 : goal.invariant_of-self-2
 invariant_of-self-2 g c =
