@@ -1,4 +1,4 @@
-"""Programs that are stopped, and cores that are made of them, by gdb or on aarch64 by qemu.
+"""Programs that are stopped, and cores that are made of them, by gdb, by Linux or on aarch64 by qemu.
 
 A core of qemu has neither an NT_FILE nor an NT_ARM_PAC_MASK, which Linux writes: they are added, with the mappings that the program copied
 from its /proc/self/maps before its `main`, and the bits of a signature of addresses of 48 bits.
@@ -157,6 +157,29 @@ __attribute__((noinline)) long down(long n, long kind) {
 int main(int argc, char **argv) { return (int)down(argc + 9, atol(argv[1])); }
 """
 
+# Calls an address without code: 0, one without memory, or one of data; and handles the signal, if there is a second argument.
+NOWHERE = """
+#include <signal.h>
+#include <stdlib.h>
+#include <string.h>
+typedef long (*step_type)(long);
+static long data[4] = {1, 2, 3};
+static volatile step_type step;
+static void handler(int number) { abort(); }
+__attribute__((noinline)) static long call(long n) { volatile long room[5] = {n, n + 1}; return step(n) + room[n % 5]; }
+__attribute__((noinline)) static long down(long n) {
+    volatile char room[40];
+    memset((void *)room, (int)n, sizeof room);
+    return n == 0 ? call(n) + room[0] : down(n - 1) + room[n % 40];
+}
+int main(int argc, char **argv) {
+    step_type steps[] = {0, (step_type)0x4141414140, (step_type)data};
+    step = steps[atol(argv[1])];
+    if (argc > 2) signal(SIGSEGV, handler);
+    return (int)down(9);
+}
+"""
+
 # Copies the mappings of the process before `main`, for a program of aarch64.
 MAPS = """
 #include <fcntl.h>
@@ -206,6 +229,19 @@ BUILT = {
     "damaged-low": (DAMAGED, "gcc", ["-O1"], ["4"]),
 }
 
+# Each program that a signal ends, whose core Linux makes. eu-stack isn't asked: it leaves out the caller of an address without code.
+ENDED = {
+    "null-call": (NOWHERE, "gcc", ["-O2"], ["0"]),
+    "null-call-plain": (NOWHERE, "gcc", ["-O0"], ["0"]),
+    "null-call-clang": (NOWHERE, "clang", ["-O2", "-fomit-frame-pointer"], ["0"]),
+    "null-call-static": (NOWHERE, "gcc", ["-O1", "-static"], ["0"]),
+    "null-call-handled": (NOWHERE, "gcc", ["-O2"], ["0", "handled"]),
+    "wild-call": (NOWHERE, "gcc", ["-O2"], ["1"]),
+    "call-of-data": (NOWHERE, "gcc", ["-O2"], ["2"]),
+    "call-of-data-handled": (NOWHERE, "clang", ["-O1"], ["2", "handled"]),
+    "debug-frame-null-call": (NOWHERE, "gcc", DEBUG_FRAME, ["0"]),
+}
+
 # Each program of the system that is stopped at work: its path and arguments.
 STOPPED = {
     "python3": ("/usr/bin/python3", "-c", "import time\ndef f(n):\n    return f(n - 1) + 1 if n else time.sleep(600)\nf(40)"),
@@ -233,11 +269,15 @@ ARM_BUILT = {
     "aarch64-signal-stack": (SIGNALS, ARM_GCC, ["-O1"], ["1"]),
     "aarch64-signals-static": (SIGNALS, ARM_GCC, ["-O1", "-static"], []),
     "aarch64-deep": (DOWN, ARM_GCC, ["-O1", SIGNED], ["990"]),
+    "aarch64-null-call": (NOWHERE, ARM_GCC, ["-O2", SIGNED], ["0"]),
+    "aarch64-null-call-plain": (NOWHERE, ARM_GCC, ["-O0"], ["0"]),
+    "aarch64-wild-call": (NOWHERE, ARM_GCC, ["-O1", "-fomit-frame-pointer"], ["1"]),
+    "aarch64-null-call-handled": (NOWHERE, ARM_GCC, ["-O1", SIGNED], ["0", "handled"]),
 }
 ARM_ROOT = "/usr/aarch64-linux-gnu"
 ARM_MASK = 0x7F << 48
 
-NAMES = [*BUILT, *STOPPED, *ARM_BUILT]
+NAMES = [*BUILT, *ENDED, *STOPPED, *ARM_BUILT]
 
 # A program with its core; the debugger for it, with its first commands; and whether eu-stack can be asked.
 Made = collections.namedtuple("Made", "program core debugger by_eu_stack")
@@ -260,6 +300,20 @@ def make_by_gdb(folder, source, compiler, options, arguments):
     run("bash", "-c", 'ulimit -s unlimited; MALLOC_ARENA_MAX=1 exec "$@"', "bash", "gdb", "-nx", "-batch", *MAKE, "-ex", "run", "-ex",
         f"generate-core-file {core}", "--args", program, *arguments)
     return Made(program, core, ["gdb", "-nx", "-batch"], True)
+
+
+def dump_by_linux(folder, program, *arguments, limit=resource.RLIM_INFINITY):
+    """The core that Linux makes of a program, of which it writes at most so many bytes. Pages of zeros aren't written."""
+    subprocess.run([program, *arguments], cwd=folder, capture_output=True, preexec_fn=lambda: resource.setrlimit(resource.RLIMIT_CORE, (limit, limit)))
+    made = folder / "core"
+    return made if made.is_file() else give_up("Linux made no file `core` (/proc/sys/kernel/core_pattern)")
+
+
+def make_ended(folder, name):
+    """Builds a program and runs it up to its signal, by which Linux makes its core."""
+    source, compiler, options, arguments = ENDED[name]
+    program = build(folder, source, compiler, options)
+    return Made(program, dump_by_linux(folder, program, *arguments), ["gdb", "-nx", "-batch"], False)
 
 
 def make_stopped(folder, name):
@@ -312,4 +366,4 @@ def make(folder, name):
     if name in BUILT:
         # eu-stack takes more than three minutes of processor for 100,000 frames.
         return make_by_gdb(folder, *BUILT[name])._replace(by_eu_stack=name != "deeper")
-    return (make_stopped if name in STOPPED else make_arm)(folder, name)
+    return (make_ended if name in ENDED else make_stopped if name in STOPPED else make_arm)(folder, name)

@@ -11,7 +11,7 @@ from lib.elf import MACHINES
 from lib.tools import give_up
 
 LOAD, NOTE = 1, 4
-PRSTATUS, AUXV, FILE, PAC_MASK = 1, 6, 0x46494C45, 0x406
+PRSTATUS, PRPSINFO, AUXV, FILE, SIGINFO, PAC_MASK = 1, 3, 6, 0x46494C45, 0x53494749, 0x406
 SYSINFO_EHDR = 33
 
 # The registers in the order of `pr_reg`, by the names of gdb.
@@ -50,6 +50,11 @@ def file_note(mappings):
     """An NT_FILE with these mappings, whose offsets are of whole pages."""
     rows = b"".join(struct.pack("<QQQ", start, end, offset // 4096) for start, end, offset, _ in mappings)
     return note(b"CORE", FILE, struct.pack("<QQ", len(mappings), 4096) + rows + b"".join(name + b"\0" for *_, name in mappings))
+
+
+def command_note(descriptor, name, arguments):
+    """An NT_PRPSINFO as this one, but with another name and other arguments."""
+    return note(b"CORE", PRPSINFO, descriptor[:40] + name.ljust(16, b"\0") + arguments.ljust(80, b"\0"))
 
 
 def mask_note(mask):

@@ -1,5 +1,5 @@
 -- The function and the file at an address.
-use Rattle.std.specs.Prelude.{ℕ, ◌+◌, ◌-◌, ◌^◌, ◌&&◌, Bool, min, nat_le, nat_lt, if◌then◌else◌, List, Option, Some, None, option_and_then}
+use Rattle.std.specs.Prelude.{ℕ, ◌+◌, ◌-◌, ◌^◌, ◌&&◌, ◌||◌, Bool, false, is_none, is_some, min, nat_le, nat_lt, if◌then◌else◌, List, Option, Some, None, option_and_then}
 use Rattle.std.specs.List.{find}
 use Rattle.std.specs.Option.{option_map}
 use Rattle.std.specs.Result.{result_ok}
@@ -15,6 +15,14 @@ is_mapped address mapping = nat_le mapping.start address && nat_lt address mappi
 -- the first file that an address is mapped from
 abbrev pub file_at : List ProcessFile → ℕ → Option ProcessFile
 file_at files address = find (λ file. is_mapped address file.mapping) files
+
+-- a mapping may have code: the file has code there, or its bytes aren't there
+abbrev pub may_have_code : ProcessFile → Bool
+may_have_code file = is_none file.bytes || is_some (loaded_code file)
+
+-- there may be code at an address, by the first file that it is mapped from
+abbrev pub may_be_code_at : List ProcessFile → ℕ → Bool
+may_be_code_at files address = elim (file_at files address) [ Some file ↦ may_have_code file | None ↦ false ]
 
 -- the function of a file at an address of the file, if its symbols can be read and have one
 abbrev pub symbol_at : CodeOfFile → ℕ → Option NamedSymbol

@@ -12,5 +12,5 @@ pub use build_ids::has_other_build_id;
 pub use code::{LoadedCode, loaded_code};
 pub use files::process_files;
 pub use loaded_file::{LoadedFile, memory_ranges};
-pub use locations::location_of;
+pub use locations::{location_of, may_be_code_at};
 pub use sections::FileSections;

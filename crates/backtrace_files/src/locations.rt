@@ -5,7 +5,7 @@ ghost use Rattle.core_files.specs.FileViews.{mapping_of};
 ghost use Rattle.elf_files.specs.SymbolViews.{symbol_seen};
 ghost use Rattle.backtrace_text.specs.FrameViews.{location_view, offset_view};
 ghost use Rattle.backtrace_files.specs.FileViews.{code_seen, file_seen, files_seen};
-ghost use Rattle.backtrace_files.specs.Locations.{file_at, function_at, function_in, is_mapped, location_of, place_in, stated_address, symbol_at};
+ghost use Rattle.backtrace_files.specs.Locations.{file_at, function_at, function_in, is_mapped, location_of, may_be_code_at, may_have_code, place_in, stated_address, symbol_at};
 
 use crate::code::{LoadedCode, loaded_code};
 use crate::loaded_file::LoadedFile;
@@ -30,6 +30,24 @@ fn file_at<'a>(files: &[LoadedFile<'a>], address: u64) -> Option<LoadedFile<'a>>
         }
     }
     None
+}
+
+// Whether a mapping may have code: the file has code there, or its bytes aren't there.
+fn may_have_code(file: &LoadedFile<'_>) -> bool
+    ensures { result ≡ may_have_code (file_seen file.now) }
+{
+    file.bytes.is_none() || loaded_code(file).is_some()
+}
+
+/// Whether there may be code at an address, by the first file that it is mapped from: the mapping has code of the file, or the file's
+/// bytes aren't there.
+pub fn may_be_code_at(files: &[LoadedFile<'_>], address: u64) -> bool
+    ensures { result ≡ may_be_code_at (files_seen files.now) address }
+{
+    match file_at(files, address) {
+        Some(file) => may_have_code(&file),
+        None => false,
+    }
 }
 
 // The function of a file at an address of the file, if its symbols can be read and have one.

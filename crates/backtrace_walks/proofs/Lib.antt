@@ -1,4 +1,5 @@
 pub mod Addresses
+pub mod CourseLaws
 pub mod FilesLoaded
 pub mod Lists
 pub mod MoveLaws

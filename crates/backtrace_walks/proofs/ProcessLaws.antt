@@ -7,12 +7,17 @@ use Rattle.core_files.specs.Memory.{word_at}
 use Rattle.core_files.specs.Ranges.{KnownRange}
 use Rattle.framehop.specs.UnwindData.{UnwindData}
 use Rattle.framehop_unwinder.specs.Modules.{Loaded}
-use Rattle.backtrace_walks.specs.Backtraces.{Process, process_with}
+use Rattle.backtrace_walks.specs.Backtraces.{Process, is_code_in, process_with}
 use Rattle.backtrace_walks.specs.Modules.{data_of_code, module_with, modules_of}
 
 -- files and the words of ranges, as a process
 abbrev pub process_by : List ProcessFile → List KnownRange → List KnownRange → Process
-process_by files segments ranges = record { files = files; modules = modules_of files; words = word_at segments ranges }
+process_by files segments ranges = record {
+  files = files;
+  modules = modules_of files;
+  words = word_at segments ranges;
+  is_code = is_code_in segments files;
+}
 
 pub same_process : (core : CoreContents) (files : List ProcessFile) (segments ranges : List KnownRange)
     → segments ≡ core.segments → ranges ≡ ranges_of files → process_by files segments ranges ≡ process_with core files

@@ -1,34 +1,42 @@
 -- The backtraces of a core's threads.
-use Rattle.std.specs.Prelude.{ℕ, ◌==◌, Bool, true, if◌then◌else◌, List, [], map, Option, Some, None}
+use Rattle.std.specs.Prelude.{ℕ, ◌-◌, ◌==◌, ◌&&◌, ◌||◌, Bool, true, nat_lt, not, if◌then◌else◌, List, [], map, Option, Some, None, option_and_then, unwrap_or}
 use Rattle.std.specs.List.{filter_map}
 use Rattle.std.specs.Option.{option_map}
 use Rattle.backtrace_files.specs.Files.{ProcessFile, ranges_of}
-use Rattle.backtrace_files.specs.Locations.{location_of}
+use Rattle.backtrace_files.specs.Locations.{location_of, may_be_code_at}
 use Rattle.backtrace_files.specs.ProcessFiles.{process_files}
 use Rattle.backtrace_text.specs.Frames as seen
 use Rattle.backtrace_text.specs.Threads.{Backtrace, text_of}
 use Rattle.core_files.specs.CoreFiles.{CoreContents}
-use Rattle.core_files.specs.Memory.{word_at}
+use Rattle.core_files.specs.Memory.{executable_at, word_at}
+use Rattle.core_files.specs.Ranges.{KnownRange}
 use Rattle.core_files.specs.declared.thread.Thread.{Thread}
 use Rattle.elf_files.specs.declared.header.Machine.{Machine}
 use Rattle.elf_files.specs.declared.header.Machine.TheVariants.{X86_64, Aarch64}
 use Rattle.framehop.specs.UnwindData.{UnwindData}
 use Rattle.framehop_registers.specs.Callback.{Words}
-use Rattle.framehop_unwinder.specs.Frames.{lookup_address}
+use Rattle.framehop_unwinder.specs.Frames.{later_frame, lookup_address}
 use Rattle.framehop_unwinder.specs.Modules.{Loaded}
 use Rattle.framehop_unwinder.specs.Walk.{Walk}
+use Rattle.framehop_unwinder.specs.WalkViews.{walk_at}
 use Rattle.backtrace_walks.specs.Modules.{modules_of}
-use Rattle.backtrace_walks.specs.StackMeanings.{StackMeanings, advance_by, stack_by, stacks_aarch64, stacks_x86_64}
-use Rattle.backtrace_walks.specs.Walks.{Advance, FrameWith, Stack}
+use Rattle.backtrace_walks.specs.StackMeanings.{StackMeanings, advance_by, stacks_aarch64, stacks_x86_64}
+use Rattle.backtrace_walks.specs.Walks.{Advance, Course, CourseMove, Ends, FrameWith, Next, Reaches, Stack, begun_or, course_at, course_from, stack_from}
 use Rattle.backtrace_walks.specs.declared.backtraces.BacktraceOptions.{BacktraceOptions}
 use Rattle.backtrace_walks.specs.declared.backtraces.FrameOptions.{FrameOptions}
+use Rattle.backtrace_walks.specs.declared.calls.CallSite.{CallSite}
 use Rattle.backtrace_walks.specs.declared.registers.ThreadStart.{ThreadStart}
 
--- What a process has: its files, the modules that these are, and the words of its memory.
+-- What a process has: its files, the modules that these are, the words of its memory, and where there is code.
 pub record Process : Type 0 where
   pub files : List ProcessFile
   pub modules : List (Loaded UnwindData)
   pub words : Words
+  pub is_code : ℕ → Bool
+
+-- there is code at an address: it may be executed, as the core's segments say, or if none contains it, if a file may have code there
+abbrev pub is_code_in : List KnownRange → List ProcessFile → ℕ → Bool
+is_code_in segments files address = unwrap_or (executable_at segments address) (may_be_code_at files address)
 
 -- the process of a core with these files
 abbrev pub process_with : CoreContents → List ProcessFile → Process
@@ -36,6 +44,7 @@ process_with core files = record {
   files = files;
   modules = modules_of files;
   words = word_at core.segments (ranges_of files);
+  is_code = is_code_in core.segments files;
 }
 
 -- the registers of a frame, if they are shown
@@ -69,13 +78,57 @@ shown_stack stacks process options thread stack = record {
   end = stack.end;
 }
 
--- the walk over a stack of a process from where a thread is
-abbrev pub walk_of_thread : {Rule Registers : Type 0} → StackMeanings Rule Registers → Process → ℕ → ThreadStart Registers → Stack Registers
-walk_of_thread stacks process limit start = stack_by stacks process.modules process.words limit start process.words
-
--- a move of that walk
+-- a move of a walk over a stack of a process
 abbrev pub advance_of_thread : {Rule Registers : Type 0} → StackMeanings Rule Registers → Process → Walk Registers → Advance Registers
 advance_of_thread stacks process walk = advance_by stacks process.modules process.words process.words walk
+
+-- the frame that made a call, if it returns to behind code of the process
+abbrev pub frame_of_call : {Registers : Type 0} → Process → CallSite Registers → Option (FrameWith Registers)
+frame_of_call process site =
+    if nat_lt 0 site.return_address && process.is_code (site.return_address - 1)
+    then Some (record { frame = later_frame site.return_address; registers = site.registers })
+    else None
+
+-- The frame that called an address without code. Only the frame that a thread is in, or that a signal interrupted, can be at such an address:
+-- each other one is where a call returns to.
+abbrev pub caller_of : {Rule Registers : Type 0} → StackMeanings Rule Registers → Process → FrameWith Registers → Option (FrameWith Registers)
+caller_of stacks process frame =
+    if not frame.frame.is_first || process.is_code frame.frame.address then None
+    else option_and_then (frame_of_call process) (stacks.called process.words frame.registers)
+
+-- a walk that goes on from a frame, or from where a signal interrupted the thread, if a handler returns to the frame
+abbrev pub walk_on : {Rule Registers : Type 0} → StackMeanings Rule Registers → Process → FrameWith Registers → Walk Registers
+walk_on stacks process frame =
+    begun_or (walk_at frame.frame frame.registers) (stacks.interrupted process.words frame.frame.address frame.registers)
+
+-- a course behind a frame, by the frame that called it, if it is at an address without code
+abbrev pub course_by : {Rule Registers : Type 0} → StackMeanings Rule Registers → Process → Option (FrameWith Registers) → Walk Registers
+    → Course Registers
+course_by stacks process None walk = course_at walk
+course_by stacks process (Some caller) walk = record { walk = walk_on stacks process caller; caller = Some caller }
+
+-- the frame that called what was next, if it is at an address without code
+abbrev pub caller_behind : {Rule Registers : Type 0} → StackMeanings Rule Registers → Process → Next Registers → Option (FrameWith Registers)
+caller_behind stacks process (Reaches frame) = caller_of stacks process frame
+caller_behind stacks process (Ends end) = None
+
+-- a course behind what was next
+abbrev pub course_behind : {Rule Registers : Type 0} → StackMeanings Rule Registers → Process → Next Registers → Walk Registers
+    → Course Registers
+course_behind stacks process next walk = course_by stacks process (caller_behind stacks process next) walk
+
+-- a move of a course over a stack of a process: to the frame that is known, or else a move of its walk
+abbrev pub course_move : {Rule Registers : Type 0} → StackMeanings Rule Registers → Process → Course Registers → CourseMove Registers
+course_move stacks process course = elim course.caller [
+  | Some frame ↦ record { next = Reaches frame; course = course_at course.walk }
+  | None ↦
+      let made = advance_of_thread stacks process course.walk in
+      record { next = made.next; course = course_behind stacks process made.next made.walk }
+]
+
+-- the walk over a stack of a process from where a thread is
+abbrev pub walk_of_thread : {Rule Registers : Type 0} → StackMeanings Rule Registers → Process → ℕ → ThreadStart Registers → Stack Registers
+walk_of_thread stacks process limit start = stack_from (course_move stacks process) limit (course_from start)
 
 -- the backtrace of a thread whose walk begins here
 abbrev pub backtrace_from : {Rule Registers : Type 0} → StackMeanings Rule Registers → Process → BacktraceOptions → ℕ → ThreadStart Registers

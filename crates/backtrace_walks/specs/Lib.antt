@@ -1,4 +1,6 @@
 pub mod Backtraces
+pub mod Calls
+pub mod CourseViews
 pub mod Modules
 pub mod ProcessViews
 pub mod Registers

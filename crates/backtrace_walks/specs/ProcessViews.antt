@@ -2,10 +2,10 @@
 use Rattle.std.specs.Prelude.{ℕ, List}
 use Rattle.backtrace_files.specs.FileViews.{files_seen}
 use Rattle.backtrace_text.specs.Frames.{frame_text}
-use Rattle.core_files.specs.MemoryViews.{word_of}
+use Rattle.core_files.specs.MemoryViews.{segments_of, word_of}
 use Rattle.framehop.specs.UnwindData.{UnwindData}
 use Rattle.framehop_unwinder.specs.State.{SessionState}
-use Rattle.backtrace_walks.specs.Backtraces.{Process, shown_frame}
+use Rattle.backtrace_walks.specs.Backtraces.{Process, is_code_in, shown_frame}
 use Rattle.backtrace_walks.specs.Modules.{modules_of}
 use Rattle.backtrace_walks.specs.SessionViews.{HasModules}
 use Rattle.backtrace_walks.specs.StackMeanings.{StackMeanings}
@@ -20,6 +20,7 @@ process_seen process = record {
   files = files_seen process.files.now;
   modules = modules_of (files_seen process.files.now);
   words = word_of process.memory;
+  is_code = is_code_in (segments_of process.memory) (files_seen process.files.now);
 }
 
 -- A session has the modules of a process.

@@ -1,5 +1,5 @@
 -- What backtraces go by on each architecture.
-use Rattle.std.specs.Prelude.{ℕ, List, Option}
+use Rattle.std.specs.Prelude.{List, Option}
 use Rattle.backtrace_text.specs.Frames.{Register}
 use Rattle.core_files.specs.declared.thread.Thread.{Thread}
 use Rattle.framehop.specs.StepMeanings.{limits_must_not_allocate, meanings_aarch64, meanings_x86_64}
@@ -13,18 +13,19 @@ use Rattle.framehop_unwinder.specs.Attempt.{Meanings}
 use Rattle.framehop_unwinder.specs.Judge.{judge}
 use Rattle.framehop_unwinder.specs.Modules.{Loaded}
 use Rattle.framehop_unwinder.specs.Walk.{Walk}
-use Rattle.framehop_unwinder.specs.WalkViews.{walk_from}
+use Rattle.backtrace_walks.specs.Calls.{Calling, called_aarch64, called_x86_64}
 use Rattle.backtrace_walks.specs.Registers.{shown_aarch64, shown_x86_64, start_aarch64, start_x86_64}
 use Rattle.backtrace_walks.specs.Signals.{Interruption, interrupted_aarch64, interrupted_x86_64}
-use Rattle.backtrace_walks.specs.Walks.{Advance, Stack, advance, stack_from}
+use Rattle.backtrace_walks.specs.Walks.{Advance, advance}
 use Rattle.backtrace_walks.specs.declared.registers.ThreadStart.{ThreadStart}
 
 -- What the stacks of threads mean on an architecture: what steps go by; where the walk over a thread's stack begins, if the thread has
--- registers of this architecture; where a signal interrupted a thread; and which registers of a frame are shown.
+-- registers of this architecture; where a signal interrupted a thread; where a call was made; and which registers of a frame are shown.
 pub record StackMeanings (Rule Registers : Type 0) : Type 0 where
   pub steps : Meanings UnwindData Rule Registers
   pub start : Thread → Option (ThreadStart Registers)
   pub interrupted : Interruption Registers
+  pub called : Calling Registers
   pub shown : Registers → List Register
 
 -- those of x86_64, with room for 64 values of an expression
@@ -33,6 +34,7 @@ stacks_x86_64 = record {
   steps = meanings_x86_64 limits_must_not_allocate;
   start = λ thread. start_x86_64 thread.registers;
   interrupted = interrupted_x86_64;
+  called = called_x86_64;
   shown = shown_x86_64;
 }
 
@@ -42,6 +44,7 @@ stacks_aarch64 = record {
   steps = meanings_aarch64 limits_must_not_allocate;
   start = λ thread. start_aarch64 thread.registers thread.pointer_authentication_masks;
   interrupted = interrupted_aarch64;
+  called = called_aarch64;
   shown = shown_aarch64;
 }
 
@@ -49,10 +52,3 @@ stacks_aarch64 = record {
 abbrev pub advance_by : {Rule Registers : Type 0} → StackMeanings Rule Registers → List (Loaded UnwindData) → Words → Words → Walk Registers
     → Advance Registers
 advance_by stacks modules memory words walk = advance (judge stacks.steps modules) (stacks.interrupted memory) words walk
-
--- the walk over a stack by these modules from where a thread is, up to a limit of frames: a signal's frame is read from the memory, and
--- steps read these words
-abbrev pub stack_by : {Rule Registers : Type 0} → StackMeanings Rule Registers → List (Loaded UnwindData) → Words → ℕ → ThreadStart Registers
-    → Words → Stack Registers
-stack_by stacks modules memory limit start words =
-    stack_from (judge stacks.steps modules) (stacks.interrupted memory) words limit (walk_from start.pc start.registers)

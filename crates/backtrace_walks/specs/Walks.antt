@@ -67,10 +67,27 @@ abbrev pub frames_by : {Registers : Type 0} → Next Registers → Stack Registe
 frames_by (Reaches frame) others = frame_before frame others
 frames_by (Ends end) others = ends_by end
 
--- The frames of a walk from where it is on, at most so many: move by move, up to the first that gives no frame.
-abbrev pub stack_from : {Registers : Type 0} → Judgment Registers → (ℕ → Registers → Option (ThreadStart Registers)) → Words → ℕ → Walk Registers
-    → Stack Registers
-stack_from judgment interrupted words zero walk = ends_by LimitReached
-stack_from judgment interrupted words (suc left) walk =
-    let made = advance judgment interrupted words walk in
-    frames_by made.next (stack_from judgment interrupted words left made.walk)
+-- The course of a walk over a thread's stack: where the walk is, and the frame that comes before its next move, if there is one.
+pub record Course (Registers : Type 0) : Type 0 where
+  pub walk : Walk Registers
+  pub caller : Option (FrameWith Registers)
+
+-- What a course has next, and where it goes on.
+pub record CourseMove (Registers : Type 0) : Type 0 where
+  pub next : Next Registers
+  pub course : Course Registers
+
+-- a course that is where a walk is
+abbrev pub course_at : {Registers : Type 0} → Walk Registers → Course Registers
+course_at walk = record { walk = walk; caller = None }
+
+-- a course that begins where a thread is
+abbrev pub course_from : {Registers : Type 0} → ThreadStart Registers → Course Registers
+course_from start = course_at (walk_from start.pc start.registers)
+
+-- The frames of a course from where it is on, at most so many: move by move, up to the first that gives no frame.
+abbrev pub stack_from : {Registers : Type 0} → (Course Registers → CourseMove Registers) → ℕ → Course Registers → Stack Registers
+stack_from moved zero course = ends_by LimitReached
+stack_from moved (suc left) course =
+    let made = moved course in
+    frames_by made.next (stack_from moved left made.course)

@@ -6,6 +6,7 @@ ghost use Rattle.backtrace_text.specs.FrameViews.{register_view};
 ghost use Rattle.core_files.specs.MemoryViews.{word_of};
 ghost use Rattle.backtrace_walks.specs.StackMeanings.{StackMeanings};
 
+use crate::calls::{CallSite, called_aarch64, called_x86_64};
 use crate::registers::{
     ThreadStart, registers_aarch64, registers_x86_64, shown_aarch64, shown_x86_64,
 };
@@ -36,6 +37,13 @@ pub trait ThreadArch: Unwinding {
         registers: &Self::UnwindRegs,
     ) -> Option<ThreadStart<Self::UnwindRegs>>
         ensures { result ≡ stacks.interrupted (word_of memory.now) code registers.now };
+
+    /// Where the call was made that led to a frame whose function has done nothing yet.
+    fn called(
+        memory: &Memory<'_, '_>,
+        registers: &Self::UnwindRegs,
+    ) -> Option<CallSite<Self::UnwindRegs>>
+        ensures { result ≡ stacks.called (word_of memory.now) registers.now };
 
     /// The registers of a frame that are shown.
     fn shown_registers(
@@ -72,6 +80,13 @@ impl ThreadArch for ArchX86_64 {
         interrupted_x86_64(memory, code, registers)
     }
 
+    fn called(
+        memory: &Memory<'_, '_>,
+        registers: &UnwindRegsX86_64,
+    ) -> Option<CallSite<UnwindRegsX86_64>> {
+        called_x86_64(memory, registers)
+    }
+
     fn shown_registers(
         alloc: Global,
         registers: &UnwindRegsX86_64,
@@ -104,6 +119,13 @@ impl ThreadArch for ArchAarch64 {
         registers: &UnwindRegsAarch64,
     ) -> Option<ThreadStart<UnwindRegsAarch64>> {
         interrupted_aarch64(memory, code, registers)
+    }
+
+    fn called(
+        _memory: &Memory<'_, '_>,
+        registers: &UnwindRegsAarch64,
+    ) -> Option<CallSite<UnwindRegsAarch64>> {
+        called_aarch64(registers)
     }
 
     fn shown_registers(

@@ -3,6 +3,8 @@
 
 mod arch;
 mod backtraces;
+mod calls;
+mod courses;
 mod registers;
 mod session;
 mod signals;
@@ -13,6 +15,7 @@ mod walks;
 
 pub use arch::{FileModules, ThreadArch};
 pub use backtraces::{BacktraceOptions, CoreProcess, FrameOptions};
+pub use calls::CallSite;
 pub use registers::ThreadStart;
 pub use session::session_of;
 pub use stack_words::next_in_memory;

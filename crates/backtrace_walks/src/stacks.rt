@@ -2,37 +2,21 @@
 
 ghost use Rattle.std.specs.Prelude.{◌≡◌, false};
 ghost use Rattle.backtrace_text.specs.Writes.{Writes};
-ghost use Rattle.framehop_unwinder.specs.WalkViews.{walk_of};
 ghost use Rattle.json_program.specs.Errors.{ReportsFailures};
-ghost use Rattle.backtrace_walks.specs.Backtraces.{advance_of_thread, is_chosen};
+ghost use Rattle.backtrace_walks.specs.Backtraces.{is_chosen};
 ghost use Rattle.backtrace_walks.specs.ProcessViews.{IsSessionOf, process_seen, walked_text};
 ghost use Rattle.backtrace_walks.specs.StackTexts.{text_from, thread_text, threads_text, walk_text};
-ghost use Rattle.backtrace_walks.specs.WalkedViews.{IsAdvance};
 
 use crate::arch::{FileModules, ThreadArch};
 use crate::backtraces::{BacktraceOptions, CoreProcess, FrameOptions, shown_frame};
+use crate::courses::{course_from, next_in};
 use crate::registers::ThreadStart;
-use crate::stack_words::next_in_memory;
 use crate::walks::{NextFrame, WalkedFrame};
 use backtrace_text::{WalkEnd, write_end, write_frame, write_thread};
 use core_files::Thread;
-use framehop::{Session, StackWalk};
+use framehop::Session;
 use json_program::{RunError, Sink};
 use std::alloc::Global;
-
-// Makes the next move of a walk over a stack of a process.
-fn next_in<'a, A: ThreadArch>(
-    session: &mut Session<FileModules<'a, A>>,
-    process: &CoreProcess<'_, '_, 'a>,
-    walk: &mut StackWalk<A::UnwindRegs>,
-) -> NextFrame<A::UnwindRegs>
-    requires { IsSessionOf process.now session.old }
-    ensures next { IsAdvance result walk.new
-        (advance_of_thread A.stacks (process_seen process.now) (walk_of walk.old)) }
-    ensures session { IsSessionOf process.now session.new }
-{
-    next_in_memory::<A>(session, &process.memory, walk)
-}
 
 // Writes the lines of a frame of this number.
 fn write_walked<A: ThreadArch, W: Sink>(
@@ -68,9 +52,9 @@ fn write_walk<'a, A: ThreadArch, W: Sink>(
     ensures errors { ReportsFailures result false (W.has_failed sink.new) }
     ensures session { IsSessionOf process.now session.new }
 {
-    let mut walk = StackWalk::new(start.pc, start.registers);
+    let mut course = course_from(start);
     for number in 0..options.limit {
-        match next_in::<A>(session, process, &mut walk) {
+        match next_in::<A>(session, process, &mut course) {
             NextFrame::Frame(frame) => {
                 write_walked::<A, W>(alloc, process, options.frames, number, &frame, sink)?;
             }

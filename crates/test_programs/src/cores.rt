@@ -13,7 +13,8 @@ fn push_header(bytes: &mut Vec<u8>, machine: u64) -> Result<(), AllocError> {
     push_words(bytes, &[0x0038_0040_0000_0000, 3])
 }
 
-// The program headers: the notes at 0xe8, the stacks behind them, and behind these the 16 bytes that handlers return to.
+// The program headers: the notes at 0xe8, the stacks behind them, and behind these 24 bytes of code from 0x1ffff8
+// on: what handlers return to is at 0x200000.
 fn push_segments(bytes: &mut Vec<u8>, notes: u64, stacks: u64) -> Result<(), AllocError> {
     let behind_notes = 0xe8_u64.wrapping_add(notes);
     let behind_stacks = behind_notes.wrapping_add(stacks);
@@ -24,7 +25,7 @@ fn push_segments(bytes: &mut Vec<u8>, notes: u64, stacks: u64) -> Result<(), All
     )?;
     push_words(
         bytes,
-        &[0x5_0000_0001, behind_stacks, 0x20_0000, 0, 16, 16, 8],
+        &[0x5_0000_0001, behind_stacks, 0x1f_fff8, 0, 24, 24, 8],
     )
 }
 
@@ -53,9 +54,9 @@ fn push_thread(
     push_words(bytes, &words)
 }
 
-// The words of both stacks. The first thread's frames go up by frame pointers. The second is in a handler, which returns to 0x200000, from
+/// The words of both stacks. The first thread's frames go up by frame pointers. The second is in a handler, which returns to 0x200000, from
 // where a signal interrupted it at 0x101600.
-fn stacks() -> [u64; 100] {
+pub fn stacks() -> [u64; 100] {
     let mut words = [0; 100];
     words[2] = 0x10_1200;
     words[4] = 0x7040;
@@ -69,18 +70,37 @@ fn stacks() -> [u64; 100] {
     words
 }
 
-/// A core of x86_64. Its thread 7 is at 0x101000, the first instruction of `leaf`, and thread 9 at 0x101500.
-pub fn core_x86_64(alloc: Global) -> Result<Vec<u8>, AllocError> {
+/// Where a thread is: RBP, RIP and RSP.
+pub type Place = (u64, u64, u64);
+
+/// A core of x86_64 whose threads 7 and 9 are at these places, with these words of their stacks.
+pub fn core_with(
+    alloc: Global,
+    first: Place,
+    second: Place,
+    words: &[u64; 100],
+) -> Result<Vec<u8>, AllocError> {
     let mut bytes = Vec::new(alloc);
     push_header(&mut bytes, 0x0000_0001_003e_0004)?;
     push_segments(&mut bytes, 356 + 356 + 72, 800)?;
-    push_thread(&mut bytes, 7, 0x7020, 0x10_1000, 0x7010)?;
-    push_thread(&mut bytes, 9, 0x7120, 0x10_1500, 0x7128)?;
+    push_thread(&mut bytes, 7, first.0, first.1, first.2)?;
+    push_thread(&mut bytes, 9, second.0, second.1, second.2)?;
     push_files(&mut bytes)?;
-    push_words(&mut bytes, &stacks())?;
-    // mov rax, 15; syscall
+    push_words(&mut bytes, words)?;
+    // nops; mov rax, 15; syscall
+    bytes.extend_from_slice(&[0x90; 8])?;
     bytes.extend_from_slice(&[0x48, 0xc7, 0xc0, 15, 0, 0, 0, 15, 5, 0, 0, 0, 0, 0, 0, 0])?;
     Ok(bytes)
+}
+
+/// A core of x86_64. Its thread 7 is at 0x101000, the first instruction of `leaf`, and thread 9 at 0x101500.
+pub fn core_x86_64(alloc: Global) -> Result<Vec<u8>, AllocError> {
+    core_with(
+        alloc,
+        (0x7020, 0x10_1000, 0x7010),
+        (0x7120, 0x10_1500, 0x7128),
+        &stacks(),
+    )
 }
 
 // The NT_PRSTATUS of a thread on aarch64, 412 bytes: at 0x101500, with a frame record at 0x7020.
@@ -109,6 +129,6 @@ pub fn core_aarch64(alloc: Global, masks: u32) -> Result<Vec<u8>, AllocError> {
         &mut bytes,
         &[0, 0, 0, 0, 0x7040, 0x002b_0000_0010_1300, 0, 0, 0, 0],
     )?;
-    bytes.extend_from_slice(&[0; 16])?;
+    bytes.extend_from_slice(&[0; 24])?;
     Ok(bytes)
 }

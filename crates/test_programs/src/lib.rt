@@ -9,6 +9,8 @@ mod build_ids;
 #[cfg(test)]
 mod bytes;
 #[cfg(test)]
+mod calls;
+#[cfg(test)]
 mod code;
 #[cfg(test)]
 mod cores;

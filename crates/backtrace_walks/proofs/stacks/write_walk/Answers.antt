@@ -1,7 +1,7 @@
 use Rattle.std.proofs.Common.{ℕ, ◌+◌, List, sym, subst}
 use Rattle.backtrace_text.specs.Ends.{end_text}
 use Rattle.backtrace_text.specs.declared.ends.WalkEnd.TheVariants.{LimitReached}
-use Rattle.framehop_unwinder.specs.WalkViews.{walk_of}
+use Rattle.backtrace_walks.specs.CourseViews.{course_of}
 use Rattle.json_program.proofs.Laws.{not_failed, written_none}
 use Rattle.json_program.specs.Stream.{IsWritten}
 use Rattle.backtrace_walks.specs.ProcessViews.{process_seen, walked_text}
@@ -21,7 +21,7 @@ loop-number-init g c =
     record {
       failed = c.requires.sink;
       session = c.requires.session;
-      stands = subst (λ (t : List ℕ). IsWritten old old t all) (sym (begins_at stacks process options c.new-walk.result start c.new-walk.ensures)) (written_none old all);
+      stands = subst (λ (t : List ℕ). IsWritten old old t all) (sym (begins_at stacks process options c.course_from-course.result start c.course_from-course.ensures)) (written_none old all);
     }
 
 pub returns-in_err-write_walked-in-Frame-clause-text : goal.returns-in_err-write_walked-in-Frame-clause-text
@@ -33,9 +33,9 @@ returns-in_err-write_walked-in-Frame-clause-text g c =
     let frame = c.in-Frame.frame in
     let moved = c.next_in in
     fails_in c.from_residual.result (g.W.Sink.contents c.args.sink.now) (g.W.Sink.contents l.sink) (g.W.Sink.contents c.write_walked.new.sink)
-    (text_left stacks process options l.number (walk_of l.walk)) (walked_text stacks process options.frames l.number frame)
-    (text_left stacks process options (l.number + 1) (walk_of moved.new.walk)) (walk_text stacks (process_seen process) options c.args.start.now) c.from_residual.ensures.0 l.invariant.stands
-    (frame_next stacks process options l.number l.walk moved.new.walk moved.result frame c.loop-number-test.true c.in-Frame.is moved.ensures.next)
+    (text_left stacks process options l.number (course_of l.course)) (walked_text stacks process options.frames l.number frame)
+    (text_left stacks process options (l.number + 1) (course_of moved.new.course)) (walk_text stacks (process_seen process) options c.args.start.now) c.from_residual.ensures.0 l.invariant.stands
+    (frame_next stacks process options l.number l.course moved.new.course moved.result frame c.loop-number-test.true c.in-Frame.is moved.ensures.next)
     c.in_err-write_walked-in-Frame.ensures.text.prefix
 
 pub returns-in-End-clause-text : goal.returns-in-End-clause-text
@@ -46,8 +46,8 @@ returns-in-End-clause-text g c =
     let l = c.loop-number in
     let moved = c.next_in in
     writes_last c.write_end.result (g.W.Sink.contents c.args.sink.now) (g.W.Sink.contents l.sink) (g.W.Sink.contents c.write_end.new.sink)
-    (text_left stacks process options l.number (walk_of l.walk)) (end_text c.in-End.end) (walk_text stacks (process_seen process) options c.args.start.now) l.invariant.stands
-    (end_next stacks process options l.number l.walk moved.new.walk moved.result c.in-End.end c.loop-number-test.true c.in-End.is moved.ensures.next) c.write_end.ensures.text
+    (text_left stacks process options l.number (course_of l.course)) (end_text c.in-End.end) (walk_text stacks (process_seen process) options c.args.start.now) l.invariant.stands
+    (end_next stacks process options l.number l.course moved.new.course moved.result c.in-End.end c.loop-number-test.true c.in-End.is moved.ensures.next) c.write_end.ensures.text
 
 pub loop-number-preserved : goal.loop-number-preserved
 loop-number-preserved g c =
@@ -61,9 +61,9 @@ loop-number-preserved g c =
       failed = not_failed (g.W.Sink.has_failed c.write_walked.new.sink) c.in_ok-write_walked-in-Frame.ensures.errors.write;
       session = moved.ensures.session;
       stands = writes_more (g.W.Sink.contents c.args.sink.now) (g.W.Sink.contents l.sink) (g.W.Sink.contents c.write_walked.new.sink)
-          (text_left stacks process options l.number (walk_of l.walk)) (walked_text stacks process options.frames l.number frame)
-          (text_left stacks process options (l.number + 1) (walk_of moved.new.walk)) (walk_text stacks (process_seen process) options c.args.start.now) l.invariant.stands
-          (frame_next stacks process options l.number l.walk moved.new.walk moved.result frame c.loop-number-test.true c.in-Frame.is moved.ensures.next)
+          (text_left stacks process options l.number (course_of l.course)) (walked_text stacks process options.frames l.number frame)
+          (text_left stacks process options (l.number + 1) (course_of moved.new.course)) (walk_text stacks (process_seen process) options c.args.start.now) l.invariant.stands
+          (frame_next stacks process options l.number l.course moved.new.course moved.result frame c.loop-number-test.true c.in-Frame.is moved.ensures.next)
           c.in_ok-write_walked-in-Frame.ensures.text.whole;
     }
 
@@ -74,5 +74,5 @@ returns-clause-text g c =
     let options = c.args.options.now in
     let l = c.loop-number in
     writes_last c.write_end-2.result (g.W.Sink.contents c.args.sink.now) (g.W.Sink.contents l.sink) (g.W.Sink.contents c.write_end-2.new.sink)
-    (text_left stacks process options l.number (walk_of l.walk)) (end_text LimitReached) (walk_text stacks (process_seen process) options c.args.start.now) l.invariant.stands
-    (limit_next stacks process options l.number l.walk c.loop-number-test.false) c.write_end-2.ensures.text
+    (text_left stacks process options l.number (course_of l.course)) (end_text LimitReached) (walk_text stacks (process_seen process) options c.args.start.now) l.invariant.stands
+    (limit_next stacks process options l.number l.course c.loop-number-test.false) c.write_end-2.ensures.text

@@ -1,5 +1,5 @@
 use Rattle.std.proofs.Common.{◌≡◌, false}
-use Rattle.framehop_unwinder.specs.WalkViews.{walk_of}
+use Rattle.backtrace_walks.specs.CourseViews.{course_of}
 use Rattle.json_program.specs.Stream.{IsWritten}
 use Rattle.backtrace_walks.specs.ProcessViews.{IsSessionOf, process_seen}
 use Rattle.backtrace_walks.specs.StackTexts.{walk_text}
@@ -13,6 +13,6 @@ invariant-loop-number g l =
     record {
       failed : g.W.Sink.has_failed l.sink ≡ false;
       session : IsSessionOf l.process l.session;
-      stands : IsWritten (g.W.Sink.contents l.fn.sink) (g.W.Sink.contents l.sink) (text_left stacks l.process l.options l.number (walk_of l.walk))
+      stands : IsWritten (g.W.Sink.contents l.fn.sink) (g.W.Sink.contents l.sink) (text_left stacks l.process l.options l.number (course_of l.course))
           (walk_text stacks (process_seen l.process) l.options l.start);
     }

@@ -6,7 +6,7 @@ use Rattle.framehop_unwinder.specs.WalkViews.{walk_of}
 use Rattle.backtrace_walks.specs.StackMeanings.{advance_by}
 use Rattle.backtrace_walks.specs.WalkedViews.{IsAdvance}
 use Rattle.backtrace_walks.proofs.SessionLaws.{keeps_has}
-use Rattle.backtrace_walks.proofs.stacks.next_in.Goals as goal
+use Rattle.backtrace_walks.proofs.courses.next_of_walk.Goals as goal
 
 pub returns-clause-next : goal.returns-clause-next
 returns-clause-next g c =
