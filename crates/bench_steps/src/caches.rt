@@ -41,7 +41,11 @@ pub fn print_caches<A: TimedArch, R: AllocGlobal + Print + Clock>(
     let mut cache = cache_of::<A>(rt.alloc(), slots)?;
     let frames = frames_of_each::<A, TimedUnwinder<A>>(&unwinder, &mut cache, &work.walks);
     let stats = cache.stats();
-    println!(rt; "{frames} frames, {} hits of {} look-ups", stats.hits(), stats.total())?;
+    println!(rt;
+        "{frames} frames, {} hits of {} look-ups",
+        stats.hits(),
+        stats.total()
+    )?;
     if is_timed {
         let least = seen_walks(rt, &unwinder, &mut cache, &work)?;
         println!(rt; "seen {} ns", least.as_nanos())?;

@@ -42,7 +42,10 @@ fn load<U: Unwinder<Module = Module<Vec<u8>>>>(
 }
 
 /// An unwinder with the module that is timed.
-pub fn unwinder_of<A: TimedArch, M: Making>(alloc: Global, work: &Work) -> Result<TimedUnwinder<A>> {
+pub fn unwinder_of<A: TimedArch, M: Making>(
+    alloc: Global,
+    work: &Work,
+) -> Result<TimedUnwinder<A>> {
     unwinder_with(
         alloc,
         M::module_of::<A>(alloc, work, parts_of(alloc, work)?)?,
