@@ -2,7 +2,7 @@
 use Rattle.std.proofs.Common.{◌≡◌, ℕ, ◌+◌, ◌<◌, List, Option, drop, length, get_or, sym, ap, ◌∙◌}
 use Rattle.backtrace_files.specs.FileViews.{file_seen, files_seen}
 use Rattle.backtrace_files.specs.declared.loaded_file.LoadedFile.{LoadedFile}
-use Rattle.framehop.specs.UnwindData.{UnwindData}
+use Rattle.framehop_loads.specs.UnwindData.{UnwindData}
 use Rattle.framehop_unwinder.specs.Modules.{Loaded}
 use Rattle.backtrace_walks.specs.Modules.{module_of, with_files, with_one}
 use Rattle.backtrace_walks.proofs.Lists.{element}

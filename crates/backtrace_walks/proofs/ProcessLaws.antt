@@ -5,7 +5,7 @@ use Rattle.core_files.specs.CoreFiles.{CoreContents}
 use Rattle.core_files.specs.MappedFiles.{FileMapping}
 use Rattle.core_files.specs.Memory.{word_at}
 use Rattle.core_files.specs.Ranges.{KnownRange}
-use Rattle.framehop.specs.UnwindData.{UnwindData}
+use Rattle.framehop_loads.specs.UnwindData.{UnwindData}
 use Rattle.framehop_unwinder.specs.Modules.{Loaded}
 use Rattle.backtrace_walks.specs.Backtraces.{Process, is_code_in, process_with}
 use Rattle.backtrace_walks.specs.Modules.{data_of_code, module_with, modules_of}

@@ -13,7 +13,7 @@ use Rattle.core_files.specs.Ranges.{KnownRange}
 use Rattle.core_files.specs.declared.thread.Thread.{Thread}
 use Rattle.elf_files.specs.declared.header.Machine.{Machine}
 use Rattle.elf_files.specs.declared.header.Machine.TheVariants.{X86_64, Aarch64}
-use Rattle.framehop.specs.UnwindData.{UnwindData}
+use Rattle.framehop_loads.specs.UnwindData.{UnwindData}
 use Rattle.framehop_registers.specs.Callback.{Words}
 use Rattle.framehop_unwinder.specs.Frames.{later_frame, lookup_address}
 use Rattle.framehop_unwinder.specs.Modules.{Loaded}

@@ -4,7 +4,7 @@ use Rattle.std.specs.Option.{option_map}
 use Rattle.backtrace_files.specs.Files.{CodeOfFile, ProcessFile, loaded_code}
 use Rattle.backtrace_files.specs.Sections.{sections_of}
 use Rattle.core_files.specs.MappedFiles.{FileMapping}
-use Rattle.framehop.specs.UnwindData.{UnwindData, both_data_of}
+use Rattle.framehop_loads.specs.UnwindData.{UnwindData, both_data_of}
 use Rattle.framehop_unwinder.specs.Modules.{Loaded, with_loaded}
 
 -- the unwind data of a file's code: that of its sections, with `.debug_frame` beside `.eh_frame`

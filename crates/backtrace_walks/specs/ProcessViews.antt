@@ -3,7 +3,7 @@ use Rattle.std.specs.Prelude.{ℕ, List}
 use Rattle.backtrace_files.specs.FileViews.{files_seen}
 use Rattle.backtrace_text.specs.Frames.{frame_text}
 use Rattle.core_files.specs.MemoryViews.{segments_of, word_of}
-use Rattle.framehop.specs.UnwindData.{UnwindData}
+use Rattle.framehop_loads.specs.UnwindData.{UnwindData}
 use Rattle.framehop_unwinder.specs.State.{SessionState}
 use Rattle.backtrace_walks.specs.Backtraces.{Process, is_code_in, shown_frame}
 use Rattle.backtrace_walks.specs.Modules.{modules_of}

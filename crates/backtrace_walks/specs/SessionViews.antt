@@ -2,7 +2,7 @@
 use Rattle.std.specs.Prelude.{◌≡◌, List, true}
 use Rattle.core_files.specs.MemoryViews.{word_of}
 use Rattle.core_files.specs.declared.memory.Memory.{Memory}
-use Rattle.framehop.specs.UnwindData.{UnwindData}
+use Rattle.framehop_loads.specs.UnwindData.{UnwindData}
 use Rattle.framehop_registers.specs.Callback.{Words}
 use Rattle.framehop_unwinder.specs.ByNumber.{is_held, marks}
 use Rattle.framehop_unwinder.specs.Modules.{Loaded}

@@ -2,8 +2,9 @@
 use Rattle.std.specs.Prelude.{List, Option}
 use Rattle.backtrace_text.specs.Frames.{Register}
 use Rattle.core_files.specs.declared.thread.Thread.{Thread}
-use Rattle.framehop.specs.StepMeanings.{limits_must_not_allocate, meanings_aarch64, meanings_x86_64}
-use Rattle.framehop.specs.UnwindData.{UnwindData}
+use Rattle.framehop.specs.StepMeanings.{meanings_aarch64, meanings_x86_64}
+use Rattle.framehop_loads.specs.StepLimits.{limits_must_not_allocate}
+use Rattle.framehop_loads.specs.UnwindData.{UnwindData}
 use Rattle.framehop_registers.specs.Callback.{Words}
 use Rattle.framehop_registers.specs.declared.aarch64.unwindregs.UnwindRegsAarch64.{UnwindRegsAarch64}
 use Rattle.framehop_registers.specs.declared.x86_64.unwindregs.UnwindRegsX86_64.{UnwindRegsX86_64}

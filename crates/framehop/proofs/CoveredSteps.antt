@@ -20,7 +20,8 @@ use Rattle.framehop_tables.specs.declared.covered.Covered.{Covered}
 use Rattle.framehop_tables.specs.declared.covered.Covered.TheVariants as covered
 use Rattle.framehop_unwinder.specs.Attempt.{Attempt, Says, SaysNothing}
 use Rattle.framehop_unwinder.specs.declared.unwinding.UnwindFailure.TheVariants as failure
-use Rattle.framehop.specs.Attempts.{StepLimits, attempt_by_method}
+use Rattle.framehop.specs.Attempts.{attempt_by_method}
+use Rattle.framehop_loads.specs.StepLimits.{StepLimits}
 use Rattle.framehop.specs.MethodViews.{AnswersMethod}
 use Rattle.framehop.specs.Methods.{Method, UsesFde, method_by_frames, method_found}
 use Rattle.framehop.proofs.MethodAnswers.{nothing-said}

@@ -2,7 +2,7 @@
 use Rattle.std.proofs.Common.{◌≡◌, ℕ, Bool, true, false, Option, Some, refl, ap, ◌∙◌, inl, inr, ◌⊎◌}
 use Rattle.std.specs.Prelude.{not, ◌&&◌, if◌then◌else◌}
 use Rattle.framehop_index.specs.FdeLookups.{PlacedFrames, covers}
-use Rattle.framehop.specs.CallFrames.{CallFrames, frames_for, frames_of, frames_used}
+use Rattle.framehop_loads.specs.CallFrames.{CallFrames, frames_for, frames_of, frames_used}
 
 choice-other : (main other : Bool) (one two : PlacedFrames) → main ≡ false → other ≡ true → (if not main && other then two else one) ≡ two
 choice-other main other one two away here = rw (away, here) refl

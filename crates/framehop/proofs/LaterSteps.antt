@@ -10,16 +10,18 @@ use Rattle.dwarf_frame_rows.specs.Row.{Row}
 use Rattle.dwarf_frame_rows.specs.declared.base_addresses.BaseAddresses.{BaseAddresses}
 use Rattle.dwarf_frame_rows.specs.declared.rules.CfaRule.{CfaRule}
 use Rattle.dwarf_frame_rows.specs.declared.rules.CfaRule.TheVariants.{RegisterAndOffset, Expression}
-use Rattle.framehop.specs.Attempts.{StepLimits, attempt_by_method}
+use Rattle.framehop.specs.Attempts.{attempt_by_method}
+use Rattle.framehop_loads.specs.StepLimits.{StepLimits}
 use Rattle.framehop.specs.Coverage.{Coverage, Covered, Uncovered, NoFde, NoAddress, attempt_by, by_known}
 use Rattle.framehop_index.specs.FdeLookups.{FoundFde, PlacedFrames, fde_for, section_of}
 use Rattle.framehop_index.specs.SectionTypes.{section_of_type}
 use Rattle.framehop_index.specs.declared.section_type.UnwindSectionType.TheVariants as kinds
-use Rattle.framehop.specs.CallFrames.{frames_used}
+use Rattle.framehop_loads.specs.CallFrames.{frames_used}
 use Rattle.framehop.specs.Methods.{fde_at_offset, method_found}
 use Rattle.framehop_compact.specs.CompactResults.{CuiResult}
 use Rattle.framehop_compact.specs.declared.cui_unwind_result.CuiUnwindResult.TheVariants.{ExecRule, NeedDwarf}
-use Rattle.framehop.specs.UnwindData.{UnwindData, ModuleFormat, CallFrames, Compact, NoFormat, Pe, method_by_compact, method_by_format}
+use Rattle.framehop_loads.specs.UnwindData.{UnwindData, ModuleFormat, CallFrames, Compact, NoFormat, Pe}
+use Rattle.framehop.specs.FormatMethods.{method_by_compact, method_by_format}
 use Rattle.framehop_registers.specs.Callback.{Words}
 use Rattle.framehop_registers.specs.RegistersAarch64.{lr_of, sp_of, fp_of}
 use Rattle.framehop_registers.specs.declared.aarch64.unwindregs.UnwindRegsAarch64.{UnwindRegsAarch64}

@@ -1,4 +1,3 @@
-pub mod BothSections
 pub mod CoverageAnswers
 pub mod CoveredSteps
 pub mod FramesUsed
@@ -10,7 +9,6 @@ pub mod RowStarts
 pub mod RowTrials
 pub mod SameSteps
 pub mod SectionsMade
-pub mod Tabulations
 pub mod TruthfulLookups
 pub mod WalkEnds
 pub mod WalkValues

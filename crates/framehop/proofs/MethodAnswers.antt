@@ -15,9 +15,10 @@ use Rattle.framehop_errors.specs.declared.dwarf.DwarfUnwinderError.{DwarfUnwinde
 use Rattle.framehop_errors.specs.declared.dwarf.DwarfUnwinderError.TheVariants as why
 use Rattle.framehop_rows.specs.Memory.{TakesMemory, takes_memory}
 use Rattle.framehop_rows.specs.RowMeanings.{RowMeanings}
-use Rattle.framehop.specs.Attempts.{StepLimits, attempt_by_method}
+use Rattle.framehop.specs.Attempts.{attempt_by_method}
+use Rattle.framehop_loads.specs.StepLimits.{StepLimits}
 use Rattle.framehop.specs.MethodViews.{AnswersMethod}
-use Rattle.framehop.specs.CallFrames.{frames_for}
+use Rattle.framehop_loads.specs.CallFrames.{frames_for}
 use Rattle.framehop.specs.Coverage.{by_known}
 use Rattle.framehop.specs.DwarfViews.{AnswersCoverage}
 use Rattle.framehop.specs.Methods.{Method, UsesFde, UsesNothing, method_at_offset, method_by_frames, method_found}

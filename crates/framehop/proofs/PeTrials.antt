@@ -22,7 +22,8 @@ use Rattle.framehop_unwinder.specs.Trials as trials
 use Rattle.framehop_unwinder.specs.Trials.{AnswersAttempt, Trial, has_wanted, rule_of_result}
 use Rattle.framehop_unwinder.specs.declared.unwinding.UnwindFailure.{UnwindFailure}
 use Rattle.framehop_unwinder.specs.declared.unwinding.UnwindFailure.TheVariants as failure
-use Rattle.framehop.specs.Attempts.{StepLimits, attempt_by_method}
+use Rattle.framehop.specs.Attempts.{attempt_by_method}
+use Rattle.framehop_loads.specs.StepLimits.{StepLimits}
 use Rattle.framehop.specs.MethodViews.{AnswersMethod}
 use Rattle.framehop.specs.PeMethods.{caller_if_any, method_by_pe}
 use Rattle.framehop.specs.RowAttempts.{failure_of}

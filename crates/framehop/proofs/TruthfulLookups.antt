@@ -22,7 +22,8 @@ use Rattle.dwarf_frame_entries.specs.AddressLookups.{fde_for_address_skipping}
 use Rattle.dwarf_frame_entries.specs.Entries.{fde_from_offset}
 use Rattle.framehop_rows.specs.RowMeanings.{RowMeanings}
 use Rattle.framehop_unwinder.specs.Attempt.{Attempt, Says, SaysNothing}
-use Rattle.framehop.specs.Attempts.{StepLimits, attempt, attempt_by_method}
+use Rattle.framehop.specs.Attempts.{attempt, attempt_by_method}
+use Rattle.framehop_loads.specs.StepLimits.{StepLimits}
 use Rattle.framehop.specs.Coverage.{Coverage, NoAddress, Uncovered, attempt_by, by_entry, by_fde, by_fde_row, covered_by_fde}
 use Rattle.framehop_index.specs.EntryFor.{fits_index, has_index, indexed_entry, indexed_fdes}
 use Rattle.framehop_index.specs.FrameSections.{eh_frame_of}

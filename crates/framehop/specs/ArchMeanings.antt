@@ -7,10 +7,11 @@ use Rattle.framehop_registers.specs.Callback.{Words}
 use Rattle.framehop_rows.specs.RowMeanings.{RowMeanings}
 use Rattle.framehop_rules.specs.Outcome.{Caller, Outcome}
 use Rattle.framehop_unwinder.specs.Attempt.{Meanings}
-use Rattle.framehop.specs.Attempts.{StepLimits, format_meanings}
+use Rattle.framehop.specs.Attempts.{format_meanings}
+use Rattle.framehop_loads.specs.StepLimits.{StepLimits}
 use Rattle.framehop.specs.StepMeanings.{meanings_by}
 use Rattle.framehop.specs.TableMethods.{table_methods}
-use Rattle.framehop.specs.UnwindData.{UnwindData}
+use Rattle.framehop_loads.specs.UnwindData.{UnwindData}
 
 -- what its rules mean, the rule that is executed if no module says anything, what rows mean, and what the unwind data of PE files and
 -- compact unwind info say, within limits

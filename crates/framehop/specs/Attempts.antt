@@ -1,5 +1,5 @@
 -- The attempt at a step by what a module's data says, on any architecture.
-use Rattle.std.specs.Prelude.{ℕ, Bool, Option, Err}
+use Rattle.std.specs.Prelude.{ℕ, Bool, Err}
 use Rattle.dwarf_constants.specs.declared.common.Vendor.{Vendor}
 use Rattle.dwarf_frame_rows.specs.Effects.{Limits}
 use Rattle.dwarf_frame_rows.specs.Row.{Row}
@@ -8,16 +8,9 @@ use Rattle.framehop_unwinder.specs.Attempt.{Attempt, Says, Evaluates, SaysNothin
 use Rattle.framehop_rows.specs.RowMeanings.{RowMeanings}
 use Rattle.framehop.specs.Coverage.{attempt_by, by_known, EvaluatesExpression}
 use Rattle.framehop.specs.Methods.{Method, UsesRule, UsesFde, UsesCodes, UsesNothing}
-use Rattle.framehop.specs.UnwindData.{TableMethods, UnwindData, method_of}
-
--- The limits that a policy sets: of rows and their rules, and of the values of an expression, if these have one.
-pub record StepLimits : Type 0 where
-  pub rows : Limits
-  pub values : Option ℕ
-
--- a policy's limits by these two
-abbrev pub step_limits : Limits → Option ℕ → StepLimits
-step_limits rows values = record { rows = rows; values = values }
+use Rattle.framehop.specs.FormatMethods.{TableMethods, method_of}
+use Rattle.framehop_loads.specs.StepLimits.{StepLimits}
+use Rattle.framehop_loads.specs.UnwindData.{UnwindData}
 
 -- the attempt by a method
 abbrev pub attempt_by_method : {Rule Registers : Type 0} → RowMeanings Rule Registers → StepLimits → Bool → Method Rule Registers

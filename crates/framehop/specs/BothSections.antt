@@ -3,10 +3,11 @@ use Rattle.std.specs.Prelude.{◌≡◌, ◌⊎◌, ℕ, Bool, true, false, List
 use Rattle.framehop_modules.specs.Chosen.{base_svmas, chosen_sections}
 use Rattle.framehop_modules.specs.Sections.{Sections}
 use Rattle.framehop_modules.specs.declared.module_sections.ModuleSections.TheVariants.{EhFrame}
-use Rattle.framehop.specs.Attempts.{FormatMeanings, StepLimits, attempt_by_format}
-use Rattle.framehop.specs.CallFrames.{alone}
-use Rattle.framehop.specs.LoadOptions.{as_original}
-use Rattle.framehop.specs.UnwindData.{UnwindData, CallFrames, bases_of, both_data_of, debug_frames, frames_with, unwind_data_of}
+use Rattle.framehop.specs.Attempts.{FormatMeanings, attempt_by_format}
+use Rattle.framehop_loads.specs.StepLimits.{StepLimits}
+use Rattle.framehop_loads.specs.CallFrames.{alone}
+use Rattle.framehop_loads.specs.LoadOptions.{as_original}
+use Rattle.framehop_loads.specs.UnwindData.{UnwindData, CallFrames, bases_of, both_data_of, debug_frames, frames_with, unwind_data_of}
 use Rattle.framehop_index.specs.FdeLookups.{PlacedFrames, covers}
 use Rattle.framehop_index.specs.declared.section_type.UnwindSectionType.TheVariants as section
 

@@ -1,11 +1,9 @@
 pub mod ArchMeanings
-pub mod ArchTables
 pub mod Attempts
 pub mod BothSections
-pub mod CallFrames
 pub mod Coverage
 pub mod DwarfViews
-pub mod LoadOptions
+pub mod FormatMethods
 pub mod LookupsAlike
 pub mod MethodViews
 pub mod Methods
@@ -17,10 +15,6 @@ pub mod SameSteps
 pub mod StepMeanings
 pub mod TableAttempts
 pub mod TableMethods
-pub mod TableSizes
 pub mod TruthfulLookups
-pub mod UnwindData
-pub mod UnwindDataViews
-pub mod UnwindKinds
 pub mod WalkLengths
 pub mod WalksX86_64

@@ -10,12 +10,13 @@ use Rattle.dwarf_frame_entries.specs.Entries.{Fde, contains, fde_from_offset}
 use Rattle.dwarf_frame_entries.specs.EntryPrograms.{fde_row}
 use Rattle.framehop_rows.specs.RowMeanings.{RowMeanings}
 use Rattle.framehop_unwinder.specs.Attempt.{Attempt, Meanings, Says, SaysNothing}
-use Rattle.framehop.specs.Attempts.{StepLimits, attempt}
+use Rattle.framehop.specs.Attempts.{attempt}
+use Rattle.framehop_loads.specs.StepLimits.{StepLimits}
 use Rattle.framehop.specs.Coverage.{Uncovered, covered_by_fde}
 use Rattle.framehop_index.specs.Lookups.{found_by_index}
 use Rattle.framehop.specs.SameSteps.{StepsAlike}
 use Rattle.framehop.specs.TruthfulLookups.{AreTruthfulFor, AttemptsAlike, HeadedSection, IsFdeFor, headed_section, headed_data, indexed_data, nearest_at, offset_headed, scanned_data}
-use Rattle.framehop.specs.UnwindData.{UnwindData}
+use Rattle.framehop_loads.specs.UnwindData.{UnwindData}
 
 -- ---- addresses relative to the base of a section whose header is truthful; `bases` are the header's for the section
 

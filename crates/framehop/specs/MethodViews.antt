@@ -6,7 +6,8 @@ use Rattle.framehop_unwinder.specs.Memory.{WantsMemoryOnlyIf}
 use Rattle.framehop_unwinder.specs.Trials.{AnswersAttempt, has_wanted}
 use Rattle.framehop_unwinder.specs.declared.unwinding.UnwindFailure.{UnwindFailure}
 use Rattle.framehop_rows.specs.RowMeanings.{RowMeanings}
-use Rattle.framehop.specs.Attempts.{EvaluatesByMethod, StepLimits, attempt_by_method}
+use Rattle.framehop.specs.Attempts.{EvaluatesByMethod, attempt_by_method}
+use Rattle.framehop_loads.specs.StepLimits.{StepLimits}
 use Rattle.framehop.specs.Methods.{Method}
 
 -- A step by a module's data, which took the callback from `old` to `new` and the registers from `before` to `after`, answers the attempt

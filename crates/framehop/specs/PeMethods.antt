@@ -5,7 +5,7 @@ use Rattle.framehop_pe_codes.specs.Refusals.{PeResult}
 use Rattle.framehop_pe_codes.specs.Sections.{PeFile}
 use Rattle.framehop_pe.specs.PeAttempts.{PeAttempt, Refuses, SaysCodes, SaysRule}
 use Rattle.framehop.specs.Methods.{Method, UsesCodes, UsesNothing, UsesRule}
-use Rattle.framehop.specs.UnwindData.{PeMethods}
+use Rattle.framehop.specs.FormatMethods.{PeMethods}
 
 -- a caller, which leaves out why there is none
 abbrev pub caller_if_any : {Registers : Type 0} → PeResult (ℕ × Registers) → Option (Caller Registers)

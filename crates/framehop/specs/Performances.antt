@@ -8,9 +8,9 @@ use Rattle.framehop_registers.specs.declared.x86_64.unwindregs.UnwindRegsX86_64.
 use Rattle.framehop_rules.specs.declared.aarch64.unwind_rule.UnwindRuleAarch64.{UnwindRuleAarch64}
 use Rattle.framehop_rules.specs.declared.x86_64.unwind_rule.UnwindRuleX86_64.{UnwindRuleX86_64}
 use Rattle.framehop_unwinder.specs.State.{SessionState}
-use Rattle.framehop.specs.Attempts.{StepLimits}
+use Rattle.framehop_loads.specs.StepLimits.{StepLimits}
 use Rattle.framehop.specs.StepMeanings.{asks_aarch64, asks_x86_64, meanings_aarch64, meanings_x86_64}
-use Rattle.framehop.specs.UnwindData.{UnwindData}
+use Rattle.framehop_loads.specs.UnwindData.{UnwindData}
 
 -- on x86_64
 abbrev pub PerformsX86_64 : {Context Callback : Type 0} → (Callback → ℕ → Result ℕ (Unit {0}) → Callback → Type 0) → Bool → StepLimits

@@ -1,6 +1,5 @@
 -- What steps go by on each architecture, if modules are unwound by their sections.
-use Rattle.std.specs.Prelude.{ℕ, Bool, List, Some, None}
-use Rattle.dwarf_frame_rows.specs.Effects.{Limits, limits_of}
+use Rattle.std.specs.Prelude.{ℕ, Bool, List}
 use Rattle.framehop_registers.specs.Callback.{Words}
 use Rattle.framehop_registers.specs.declared.aarch64.unwindregs.UnwindRegsAarch64.{UnwindRegsAarch64}
 use Rattle.framehop_registers.specs.declared.x86_64.unwindregs.UnwindRegsX86_64.{UnwindRegsX86_64}
@@ -22,21 +21,10 @@ use Rattle.framehop_compact.specs.Unwound.{compact_x86_64}
 use Rattle.framehop_compact.specs.UnwoundAarch64.{compact_aarch64}
 use Rattle.framehop_pe.specs.PeAttempts.{Refuses}
 use Rattle.framehop_pe.specs.PeSteps.{attempt_x86_64}
-use Rattle.framehop.specs.Attempts.{AsksExpression, FormatMeanings, StepLimits, attempt_by_format, format_meanings, step_limits}
+use Rattle.framehop.specs.Attempts.{AsksExpression, FormatMeanings, attempt_by_format, format_meanings}
 use Rattle.framehop.specs.TableMethods.{table_methods}
-use Rattle.framehop.specs.UnwindData.{UnwindData}
-
--- the limits of rows, which each policy sets: they have room for the rules of 192 registers, and there is room for 4 rows
-abbrev pub row_limits : Limits
-row_limits = limits_of (Some 192) (Some 4)
-
--- the limits if steps may allocate: those of rows, and room for any number of values of an expression
-abbrev pub limits_may_allocate : StepLimits
-limits_may_allocate = step_limits row_limits None
-
--- the limits if they must not: there is room for 64 values of an expression
-abbrev pub limits_must_not_allocate : StepLimits
-limits_must_not_allocate = step_limits row_limits (Some 64)
+use Rattle.framehop_loads.specs.StepLimits.{StepLimits}
+use Rattle.framehop_loads.specs.UnwindData.{UnwindData}
 
 -- what steps go by: the meanings of rules, the rule that is executed if no module says anything, and what formats mean
 abbrev pub meanings_by : {Rule Registers : Type 0} → (Rule → Bool → Registers → Words → Outcome (Caller Registers)) → Rule

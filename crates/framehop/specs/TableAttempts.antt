@@ -2,11 +2,12 @@
 use Rattle.std.specs.Prelude.{◌≡◌, ℕ, Bool, None, Some}
 use Rattle.framehop_code_rules.specs.declared.CodeRules.{CodeRules}
 use Rattle.framehop_modules.specs.Sections.{Sections}
-use Rattle.framehop.specs.Attempts.{FormatMeanings, StepLimits, attempt_by_format}
-use Rattle.framehop.specs.UnwindData.{unwind_data_with}
-use Rattle.framehop.specs.declared.load_options.FdeLookup.TheVariants.{Auto, Index}
-use Rattle.framehop.specs.declared.load_options.LoadOptions.{LoadOptions}
-use Rattle.framehop.specs.declared.load_options.TableArch.{TableArch}
+use Rattle.framehop.specs.Attempts.{FormatMeanings, attempt_by_format}
+use Rattle.framehop_loads.specs.StepLimits.{StepLimits}
+use Rattle.framehop_loads.specs.UnwindData.{unwind_data_with}
+use Rattle.framehop_loads.specs.declared.load_options.FdeLookup.TheVariants.{Auto, Index}
+use Rattle.framehop_loads.specs.declared.load_options.LoadOptions.{LoadOptions}
+use Rattle.framehop_loads.specs.declared.load_options.TableArch.{TableArch}
 
 -- by an index without a table
 abbrev pub indexed : (beside : Bool) → CodeRules → LoadOptions

@@ -8,14 +8,15 @@ use Rattle.dwarf_frame_entries.specs.SectionFdes.{whole_fdes, nearest_fde}
 use Rattle.dwarf_call_frames.specs.Header.{Header}
 use Rattle.dwarf_call_frames.specs.Truthful.{IsTruthful}
 use Rattle.framehop_rows.specs.RowMeanings.{RowMeanings}
-use Rattle.framehop.specs.Attempts.{StepLimits, attempt}
+use Rattle.framehop.specs.Attempts.{attempt}
+use Rattle.framehop_loads.specs.StepLimits.{StepLimits}
 use Rattle.framehop_index.specs.EntryFor.{fits_index}
 use Rattle.framehop_index.specs.FrameSections.{eh_frame_of}
 use Rattle.framehop_index.specs.Lookups.{eh_frame_hdr_of, found_by_header, parsed_header}
 use Rattle.framehop_index.specs.FdeLookups.{Lookup, ByHeader, ByIndex, ByScan, PlacedFrames, placed}
 use Rattle.framehop_index.specs.declared.section_type.UnwindSectionType.TheVariants.{EhFrame}
-use Rattle.framehop.specs.CallFrames.{alone}
-use Rattle.framehop.specs.UnwindData.{UnwindData, CallFrames}
+use Rattle.framehop_loads.specs.CallFrames.{alone}
+use Rattle.framehop_loads.specs.UnwindData.{UnwindData, CallFrames}
 
 -- The bytes of a section `.eh_frame` and of its header, the addresses that pointers in them are relative to, and the base that
 -- relative addresses are relative to.

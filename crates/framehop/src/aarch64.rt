@@ -9,12 +9,12 @@ ghost use Rattle.framehop_unwinder.specs.CacheViews.{rules_of};
 ghost use Rattle.framehop.specs.Performances.{PerformsAarch64};
 
 use crate::arch::BySections;
-use crate::cache::{AllocationPolicy, MayAllocateDuringUnwind};
-use crate::context::DwarfUnwindContext;
 use crate::histories::{self, Answer, Command};
-use crate::unwind_data::ModuleUnwindData;
 pub use framehop_analysis::aarch64::{
     unwind_rule_from_detected_epilogue, unwind_rule_from_detected_prologue,
+};
+use framehop_loads::{
+    AllocationPolicy, DwarfUnwindContext, MayAllocateDuringUnwind, ModuleUnwindData,
 };
 use framehop_modules::SectionBytes;
 pub use framehop_rows::aarch64::rule_answers_as_its_row;

@@ -5,16 +5,16 @@ ghost use Rattle.framehop.specs.Attempts.{AsksExpression, format_meanings};
 ghost use Rattle.framehop.specs.StepMeanings.{meanings_by};
 ghost use Rattle.framehop.specs.TableMethods.{table_methods};
 
-use crate::cache::AllocationPolicy;
-use crate::call_frames::{failure_of, unwind_frame_by_call_frames};
+use crate::call_frames::unwind_frame_by_call_frames;
 use crate::compact::unwind_frame_by_compact;
-use crate::context::DwarfUnwindContext;
+use crate::failures::failure_of;
 use crate::pe::unwind_frame_by_pe;
-use crate::tabulation::Tabulating;
-use crate::unwind_data::{ModuleFormat, ModuleUnwindData};
 use framehop_analysis::InstructionAnalysis;
 use framehop_compact::CompactUnwindInfoUnwinding;
 use framehop_errors::UnwinderError;
+use framehop_loads::{
+    AllocationPolicy, DwarfUnwindContext, ModuleFormat, ModuleUnwindData, Tabulating,
+};
 use framehop_modules::SectionBytes;
 use framehop_pe::PeUnwinding;
 use framehop_rows::DwarfUnwinding;
@@ -96,8 +96,9 @@ impl<A: Unwinding, D: SectionBytes + Drop, P: AllocationPolicy> ModuleUnwinding
                 relative_address,
                 read_stack,
             ),
-            ModuleFormat::Compact(file) => unwind_frame_by_compact::<A, P, D, F>(
+            ModuleFormat::Compact(file, eh_frame) => unwind_frame_by_compact::<A, P, D, F>(
                 file,
+                eh_frame,
                 unwind_data.bases(),
                 unwind_data.base_svma(),
                 regs,

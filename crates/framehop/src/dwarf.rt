@@ -98,7 +98,7 @@ fn unwind_frame_by_fde<
 // The step by what is known of the FDE for an address of a section, from a frame there: by the FDE, or by the rule for code that no row
 // covers if it is known that there is none.
 #[inline(always)]
-pub(crate) fn unwind_frame_by_known<
+pub(crate) fn unwind_frame_by_known_fde<
     A: DwarfUnwinding,
     ES: EvaluationStorage,
     UCS: UnwindContextStorage<usize>,
@@ -247,7 +247,7 @@ impl<'a, A: DwarfUnwinding, UCS: UnwindContextStorage<usize>> DwarfUnwinder<'a, 
     {
         let address = lookup_address(self.base_svma, relative_address)?;
         match lent_fde_at(&self.section, self.bases, fde_offset) {
-            Ok(fde) => unwind_frame_by_known::<A, ES, UCS, F>(
+            Ok(fde) => unwind_frame_by_known_fde::<A, ES, UCS, F>(
                 alloc,
                 &self.section,
                 self.bases,
@@ -287,7 +287,7 @@ impl<'a, A: DwarfUnwinding, UCS: UnwindContextStorage<usize>> DwarfUnwinder<'a, 
     {
         let address = lookup_address(self.base_svma, relative_address)?;
         match lent_fde_around(&self.section, self.bases, address) {
-            Ok(known) => unwind_frame_by_known::<A, ES, UCS, F>(
+            Ok(known) => unwind_frame_by_known_fde::<A, ES, UCS, F>(
                 alloc,
                 &self.section,
                 self.bases,

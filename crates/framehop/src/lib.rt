@@ -6,31 +6,19 @@
 
 pub mod aarch64;
 mod arch;
-mod cache;
 mod call_frames;
 mod compact;
-mod context;
 mod dwarf;
+mod failures;
 pub mod histories;
-mod load_options;
 pub mod lookup_laws;
-mod module;
 mod pe;
-mod relative;
 pub mod row_laws;
 pub mod rule_laws;
-mod tabulation;
-mod unwind_data;
-mod unwind_kind;
 pub mod walk_laws;
 pub mod x86_64;
 
 pub use arch::{BySections, Unwinding};
-pub use cache::{
-    AllocationPolicy, MayAllocateDuringUnwind, MustNotAllocateDuringUnwind, StoreOnStack,
-    StoreRowsOnHeap, policies_set_limits,
-};
-pub use context::DwarfUnwindContext;
 pub use dwarf::DwarfUnwinder;
 pub use dwarf_frame_entries::BaseAddresses;
 pub use framehop_analysis::InstructionAnalysis;
@@ -43,6 +31,11 @@ pub use framehop_errors::{
     PeUnwinderError, UnwinderError,
 };
 pub use framehop_index::{DwarfCfiIndex, IndexLookup, UnwindSectionType};
+pub use framehop_loads::{
+    AllocationPolicy, ArchRuleTable, DwarfUnwindContext, FdeLookup, LeftOut, LoadOptions,
+    MayAllocateDuringUnwind, Module, ModuleUnwindData, MustNotAllocateDuringUnwind, StoreOnStack,
+    StoreRowsOnHeap, TableArch, Tabulating, UnwindDataKind, load_module, policies_set_limits,
+};
 pub use framehop_modules::{
     ExplicitModuleSectionInfo, Generations, GenerationsExhausted, LoadError, ModuleSectionInfo,
     PeModuleSectionInfo, SectionBytes,
@@ -63,8 +56,3 @@ pub use framehop_unwinder::{
     AddUnwinderError, Cache, CacheId, ModuleUnwinding, Session, SessionUnwindIterator, StackWalk,
     StaleId, UnwindFailure, UnwindIterator, Unwinder, UnwinderId, UnwinderInternal, laws,
 };
-pub use load_options::{FdeLookup, LoadOptions, TableArch};
-pub use module::{Module, load_module};
-pub use tabulation::{ArchRuleTable, Tabulating};
-pub use unwind_data::ModuleUnwindData;
-pub use unwind_kind::{LeftOut, UnwindDataKind};

@@ -4,15 +4,16 @@
 ghost use Rattle.std.specs.Prelude.{◌≡◌, ◌<◌, ◌+◌, ◌^◌};
 ghost use Rattle.framehop_modules.specs.Sections.{Sections};
 ghost use Rattle.framehop_unwinder.specs.Attempt.{Meanings};
-ghost use Rattle.framehop.specs.Attempts.{FormatMeanings, StepLimits};
+ghost use Rattle.framehop.specs.Attempts.{FormatMeanings};
+ghost use Rattle.framehop_loads.specs.StepLimits.{StepLimits};
 ghost use Rattle.framehop.specs.BothSections.{AllAttemptByOne, HasOne};
 ghost use Rattle.framehop.specs.TableAttempts.{AllAttemptAsIndexed};
-ghost use Rattle.framehop.specs.declared.load_options.LoadOptions.{LoadOptions};
+ghost use Rattle.framehop_loads.specs.declared.load_options.LoadOptions.{LoadOptions};
 ghost use Rattle.framehop.specs.SameSteps.{StepsFollowAttempts};
 ghost use Rattle.framehop.specs.StepMeanings.{meanings_aarch64, meanings_x86_64};
 ghost use Rattle.framehop.specs.LookupsAlike.{AddressBelow, AddressFrom, AddressWithin, AllLeadTo, AllStepAlike, AttemptsBelow, AttemptsFrom, LookupsBelowAll};
 ghost use Rattle.framehop.specs.TruthfulLookups.{AllAttemptAlike};
-ghost use Rattle.framehop.specs.UnwindData.{HasHeaderOfEhFrame, UnwindData, both_data_of, unwind_data_of, unwind_data_with};
+ghost use Rattle.framehop_loads.specs.UnwindData.{HasHeaderOfEhFrame, UnwindData, both_data_of, unwind_data_of, unwind_data_with};
 
 use framehop_rows::DwarfUnwinding;
 use framehop_rules::Arch;

@@ -3,8 +3,8 @@ use Rattle.std.proofs.Common.{◌≡◌, ◌∙◌, ℕ, List, [], Result, Ok, E
 use Rattle.std.specs.Prelude.{IfOk}
 use Rattle.framehop_modules.specs.Sections.{Sections}
 use Rattle.framehop_unwinder.specs.Modules.{Loaded}
-use Rattle.framehop.specs.UnwindData.{UnwindData, unwind_data_with}
-use Rattle.framehop.specs.declared.load_options.LoadOptions.{LoadOptions}
+use Rattle.framehop_loads.specs.UnwindData.{UnwindData, unwind_data_with}
+use Rattle.framehop_loads.specs.declared.load_options.LoadOptions.{LoadOptions}
 use Rattle.framehop_calls.specs.Sections.{sections_listed}
 use Rattle.framehop_c.specs.Files.{module_of}
 use Rattle.framehop_c.specs.declared.files.MappedFile.{MappedFile}

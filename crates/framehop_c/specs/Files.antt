@@ -3,12 +3,12 @@ use Rattle.std.specs.Prelude.{ℕ, ◌≡◌, [], Bool, not, ◌==◌, Option, S
 use Rattle.framehop_code_rules.specs.declared.CodeRules.TheVariants.{Published}
 use Rattle.framehop_unwinder.specs.ByNumber.{is_held}
 use Rattle.framehop_unwinder.specs.Modules.{Loaded}
-use Rattle.framehop.specs.UnwindData.{UnwindData, unwind_data_with}
-use Rattle.framehop.specs.declared.load_options.FdeLookup.{FdeLookup}
-use Rattle.framehop.specs.declared.load_options.FdeLookup.TheVariants.{Auto, Index, Scan}
-use Rattle.framehop.specs.declared.load_options.LoadOptions.{LoadOptions}
-use Rattle.framehop.specs.declared.load_options.TableArch.{TableArch}
-use Rattle.framehop.specs.declared.load_options.TableArch.TheVariants as arch
+use Rattle.framehop_loads.specs.UnwindData.{UnwindData, unwind_data_with}
+use Rattle.framehop_loads.specs.declared.load_options.FdeLookup.{FdeLookup}
+use Rattle.framehop_loads.specs.declared.load_options.FdeLookup.TheVariants.{Auto, Index, Scan}
+use Rattle.framehop_loads.specs.declared.load_options.LoadOptions.{LoadOptions}
+use Rattle.framehop_loads.specs.declared.load_options.TableArch.{TableArch}
+use Rattle.framehop_loads.specs.declared.load_options.TableArch.TheVariants as arch
 use Rattle.framehop_calls.specs.Calls.{LoadsModule}
 use Rattle.framehop_calls.specs.Sections.{sections_listed}
 use Rattle.framehop_calls.specs.Statuses.{bad_argument}

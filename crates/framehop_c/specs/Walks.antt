@@ -3,7 +3,8 @@ use Rattle.std.specs.Prelude.{ℕ, ◌≡◌, List, [], ◌∷◌, Bool, true, f
 use Rattle.framehop_registers.specs.declared.aarch64.unwindregs.UnwindRegsAarch64.{UnwindRegsAarch64}
 use Rattle.framehop_registers.specs.declared.x86_64.unwindregs.UnwindRegsX86_64.{UnwindRegsX86_64}
 use Rattle.framehop_samples.specs.declared.sample.Sample.{Sample}
-use Rattle.framehop.specs.StepMeanings.{limits_may_allocate, meanings_aarch64, meanings_x86_64}
+use Rattle.framehop.specs.StepMeanings.{meanings_aarch64, meanings_x86_64}
+use Rattle.framehop_loads.specs.StepLimits.{limits_may_allocate}
 use Rattle.framehop_calls.specs.Places.{position_numbered}
 use Rattle.framehop_calls.specs.Registers.{from_aarch64, from_x86_64, to_aarch64, to_x86_64}
 use Rattle.framehop_calls.specs.Statuses.{bad_argument, is_among, no_cache, no_unwinder, no_value, other_architecture}

@@ -2,7 +2,7 @@
 use Rattle.std.proofs.Common.{◌≡◌, ◌∙◌, ℕ, zero, suc, List, [], ◌∷◌, ◌++◌, map, Bool, true, refl, sym, ap, append_assoc}
 use Rattle.std.specs.Prelude.{◌&&◌, Option, Some, None, is_some, option_map}
 use Rattle.std.proofs.lemmas.List.{append-nil}
-use Rattle.framehop.specs.UnwindData.{UnwindData}
+use Rattle.framehop_loads.specs.UnwindData.{UnwindData}
 use Rattle.framehop_unwinder.specs.ByNumber.{held, is_held, marks}
 use Rattle.framehop_unwinder.specs.Frames.{Frame}
 use Rattle.framehop_unwinder.specs.Walk.{Move, Walk}

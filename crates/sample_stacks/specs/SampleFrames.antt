@@ -1,6 +1,6 @@
 -- The frames of a sample's walk.
 use Rattle.std.specs.Prelude.{ℕ, zero, suc, List, [], ◌∷◌, ◌++◌}
-use Rattle.framehop.specs.UnwindData.{UnwindData}
+use Rattle.framehop_loads.specs.UnwindData.{UnwindData}
 use Rattle.framehop_unwinder.specs.Frames.{Frame}
 use Rattle.framehop_unwinder.specs.IdViews.{modules_by}
 use Rattle.framehop_unwinder.specs.Modules.{Loaded}

@@ -1,7 +1,8 @@
 -- What samples mean on each architecture: where their walks begin, and what steps go by.
 use Rattle.std.specs.Prelude.{ℕ, Bool, List, [], ◌∷◌, Option, None, option_map, unwrap_or}
-use Rattle.framehop.specs.StepMeanings.{limits_must_not_allocate, meanings_aarch64, meanings_x86_64}
-use Rattle.framehop.specs.UnwindData.{UnwindData}
+use Rattle.framehop.specs.StepMeanings.{meanings_aarch64, meanings_x86_64}
+use Rattle.framehop_loads.specs.StepLimits.{limits_must_not_allocate}
+use Rattle.framehop_loads.specs.UnwindData.{UnwindData}
 use Rattle.framehop_registers.specs.Callback.{Words}
 use Rattle.framehop_registers.specs.Registers.{new_registers, with_values}
 use Rattle.framehop_registers.specs.RegistersAarch64 as aarch64

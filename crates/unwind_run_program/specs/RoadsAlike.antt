@@ -4,11 +4,11 @@ use Rattle.std.specs.List.{Contains}
 use Rattle.dwarf_frame_entries.specs.Entries.{Fde, contains}
 use Rattle.dwarf_frame_entries.specs.SectionFdes.{whole_fdes}
 use Rattle.dwarf_frame_rows.specs.declared.base_addresses.BaseAddresses.{BaseAddresses}
-use Rattle.framehop.specs.Attempts.{StepLimits}
+use Rattle.framehop_loads.specs.StepLimits.{StepLimits}
 use Rattle.framehop_index.specs.FrameSections.{eh_frame_of}
 use Rattle.framehop.specs.TruthfulLookups.{AreTruthful, HeadedSection}
-use Rattle.framehop.specs.UnwindData.{UnwindData, bases_of}
-use Rattle.framehop.specs.declared.load_options.TableArch.{TableArch}
+use Rattle.framehop_loads.specs.UnwindData.{UnwindData, bases_of}
+use Rattle.framehop_loads.specs.declared.load_options.TableArch.{TableArch}
 use Rattle.framehop_modules.specs.Chosen.{base_svmas}
 use Rattle.framehop_unwinder.specs.Attempt.{Meanings}
 use Rattle.framehop_unwinder.specs.Frames.{lookup_address}

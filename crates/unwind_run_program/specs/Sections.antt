@@ -3,11 +3,11 @@ use Rattle.std.specs.Prelude.{ℕ, Bool, false, List, [], ◌∷◌, Option, Som
 use Rattle.std.specs.Option.{option_or}
 use Rattle.std.specs.declared.ops.Range.{Range}
 use Rattle.framehop_code_rules.specs.declared.CodeRules.TheVariants.{Published}
-use Rattle.framehop.specs.UnwindData.{UnwindData, unwind_data_with}
-use Rattle.framehop.specs.declared.load_options.FdeLookup.{FdeLookup}
-use Rattle.framehop.specs.declared.load_options.FdeLookup.TheVariants.{Auto, Index, Scan}
-use Rattle.framehop.specs.declared.load_options.LoadOptions.{LoadOptions}
-use Rattle.framehop.specs.declared.load_options.TableArch.{TableArch}
+use Rattle.framehop_loads.specs.UnwindData.{UnwindData, unwind_data_with}
+use Rattle.framehop_loads.specs.declared.load_options.FdeLookup.{FdeLookup}
+use Rattle.framehop_loads.specs.declared.load_options.FdeLookup.TheVariants.{Auto, Index, Scan}
+use Rattle.framehop_loads.specs.declared.load_options.LoadOptions.{LoadOptions}
+use Rattle.framehop_loads.specs.declared.load_options.TableArch.{TableArch}
 use Rattle.framehop_modules.specs.Sections.{Sections}
 use Rattle.unwind_run_document.specs.declared.command.AddressRange.{AddressRange}
 use Rattle.unwind_run_document.specs.Options.{options_of}

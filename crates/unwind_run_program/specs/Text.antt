@@ -8,11 +8,11 @@ use Rattle.json_program.specs.declared.status.Outcome.{Outcome as RunOutcome}
 use Rattle.json_program.specs.declared.status.Outcome.TheVariants.{Completed, Faulted}
 use Rattle.framehop_registers.specs.Callback.{Words}
 use Rattle.framehop_unwinder.specs.Attempt.{Meanings}
-use Rattle.framehop.specs.Attempts.{StepLimits}
-use Rattle.framehop.specs.StepMeanings.{limits_may_allocate, limits_must_not_allocate, meanings_aarch64, meanings_x86_64}
-use Rattle.framehop.specs.UnwindData.{UnwindData}
-use Rattle.framehop.specs.declared.load_options.TableArch.{TableArch}
-use Rattle.framehop.specs.declared.load_options.TableArch.TheVariants as tables
+use Rattle.framehop_loads.specs.StepLimits.{StepLimits, limits_may_allocate, limits_must_not_allocate}
+use Rattle.framehop.specs.StepMeanings.{meanings_aarch64, meanings_x86_64}
+use Rattle.framehop_loads.specs.UnwindData.{UnwindData}
+use Rattle.framehop_loads.specs.declared.load_options.TableArch.{TableArch}
+use Rattle.framehop_loads.specs.declared.load_options.TableArch.TheVariants as tables
 use Rattle.unwind_run_program.specs.Sections.{DataForms, data_stated, plain, scanning}
 use Rattle.framehop_unwinder.specs.Frames.{Frame, first_frame, later_frame}
 use Rattle.framehop_unwinder.specs.Judge.{judge}

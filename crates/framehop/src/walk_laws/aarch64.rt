@@ -3,8 +3,8 @@
 ghost use Rattle.std.specs.Prelude.{List};
 ghost use Rattle.framehop_registers.specs.RegistersAarch64.{sp_of};
 ghost use Rattle.framehop_unwinder.specs.Modules.{Loaded};
-ghost use Rattle.framehop.specs.Attempts.{StepLimits};
-ghost use Rattle.framehop.specs.UnwindData.{UnwindData};
+ghost use Rattle.framehop_loads.specs.StepLimits.{StepLimits};
+ghost use Rattle.framehop_loads.specs.UnwindData.{UnwindData};
 ghost use Rattle.framehop.specs.WalkLengths.{LaterStepsRaise, WalksEnd};
 ghost use Rattle.framehop.specs.StepMeanings.{steps_aarch64};
 

@@ -1,6 +1,6 @@
 use Rattle.std.proofs.Common.{List, subst}
 use Rattle.core_files.specs.MemoryViews.{word_of}
-use Rattle.framehop.specs.UnwindData.{UnwindData}
+use Rattle.framehop_loads.specs.UnwindData.{UnwindData}
 use Rattle.framehop_unwinder.specs.Modules.{Loaded}
 use Rattle.framehop_unwinder.specs.WalkViews.{walk_of}
 use Rattle.backtrace_walks.specs.StackMeanings.{advance_by}

@@ -1,7 +1,7 @@
 use Rattle.std.proofs.Common.{ap, ◌∙◌}
 use Rattle.backtrace_files.specs.FileViews.{code_seen}
 use Rattle.core_files.specs.FileViews.{mapping_of}
-use Rattle.framehop.specs.UnwindData.{both_data_of}
+use Rattle.framehop_loads.specs.UnwindData.{both_data_of}
 use Rattle.backtrace_walks.proofs.ProcessLaws.{module_is}
 use Rattle.backtrace_walks.proofs.session.module_with.Goals as goal
 

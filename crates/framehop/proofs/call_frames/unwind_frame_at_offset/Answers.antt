@@ -19,7 +19,7 @@ returns-in-Ok-lent_fde_at-clause-answers g c =
     let section = frame_section_lent c.args.bases c.args.section in
     method-as g.A.DwarfUnwinding.rows g.A.DwarfUnwinding.MeetsExpression g.P.AllocationPolicy.limits g.P.AllocationPolicy.may_allocate c.args.is_first_frame _ _ _ _ _ _ _
     (offset-there section c.args.base_svma c.args.relative_address c.args.fde_offset c.in-Ok.address (Ok c.in-Ok-lent_fde_at.fde) c.in-Ok.ensures.some c.in-Ok.ensures.fits c.in-Ok-lent_fde_at.ensures)
-    c.unwind_frame_by_fde.ensures.answers
+    c.unwind_frame_with_context.ensures.answers
 
 -- or it isn't
 pub returns-in-Err-lent_fde_at-clause-answers : goal.returns-in-Err-lent_fde_at-clause-answers

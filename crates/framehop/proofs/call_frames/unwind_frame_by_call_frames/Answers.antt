@@ -1,7 +1,7 @@
 use Rattle.std.proofs.Common.{Option, Some, None, ap, ◌∙◌}
 use Rattle.std.specs.Prelude.{option_map}
 use Rattle.framehop_index.specs.FdeLookups.{PlacedFrames}
-use Rattle.framehop.specs.CallFrames.{frames_of}
+use Rattle.framehop_loads.specs.CallFrames.{frames_of}
 use Rattle.framehop.specs.Methods.{Method, method_by_frames}
 use Rattle.framehop.proofs.MethodAnswers.{method-as}
 use Rattle.framehop.proofs.call_frames.unwind_frame_by_call_frames.Goals as goal

@@ -24,4 +24,4 @@ returns-in-Ok-lookup_address-clause-answers g c =
     (ap (λ t. section_of_type c.bases.result.now t) c.section.ensures ∙ ap (λ b. section_of_type b frames.section) c.bases.ensures)
     (c.in-Ok-lookup_address.ensures.some ∙ ap (λ n. n + relative) c.base_svma.ensures)
     (sym c.requires.found ∙ c.in-Ok.is))
-    c.unwind_frame_by_fde.ensures.answers
+    c.unwind_frame_with_context.ensures.answers

@@ -6,11 +6,12 @@ use Rattle.framehop_modules.specs.Chosen.{base_svmas, chosen_sections}
 use Rattle.framehop_modules.specs.Sections.{Sections}
 use Rattle.framehop_modules.specs.declared.module_sections.ModuleSections.{ModuleSections}
 use Rattle.framehop_modules.specs.declared.module_sections.ModuleSections.TheVariants.{CompactUnwindInfoAndEhFrame, PeUnwindInfo, EhFrame, DebugFrame, NoSections}
-use Rattle.framehop.specs.Attempts.{FormatMeanings, StepLimits, attempt_by_format}
+use Rattle.framehop.specs.Attempts.{FormatMeanings, attempt_by_format}
+use Rattle.framehop_loads.specs.StepLimits.{StepLimits}
 use Rattle.framehop.specs.BothSections.{HasBoth, data_by, eh_frames, frames_beside}
-use Rattle.framehop.specs.CallFrames.{frames_for}
-use Rattle.framehop.specs.LoadOptions.{as_original, with_both}
-use Rattle.framehop.specs.UnwindData.{ModuleFormat, UnwindData, CallFrames, bases_of, both_data_of, format_with, unwind_data_of}
+use Rattle.framehop_loads.specs.CallFrames.{frames_for}
+use Rattle.framehop_loads.specs.LoadOptions.{as_original, with_both}
+use Rattle.framehop_loads.specs.UnwindData.{ModuleFormat, UnwindData, CallFrames, bases_of, both_data_of, format_with, unwind_data_of}
 use Rattle.framehop.proofs.FramesUsed.{used-main, used-other}
 use Rattle.framehop.proofs.lookup_laws.debug_frame_is_used_beside_eh_frame.Goals as goal
 

@@ -4,12 +4,12 @@ use Rattle.framehop_index.specs.declared.section_type.UnwindSectionType.TheVaria
 use Rattle.framehop_modules.specs.Chosen.{base_svmas, chosen_sections}
 use Rattle.framehop_modules.specs.declared.module_sections.ModuleSections.{ModuleSections}
 use Rattle.framehop_modules.specs.declared.module_sections.ModuleSections.TheVariants.{CompactUnwindInfoAndEhFrame, PeUnwindInfo, EhFrame, DebugFrame, NoSections}
-use Rattle.framehop.specs.LoadOptions.{lookup_by}
-use Rattle.framehop.specs.UnwindData.{HasHeaderOfEhFrame, IsHeaderOfEhFrame, bases_of, debug_frame_of, format_with}
-use Rattle.framehop.specs.declared.load_options.FdeLookup.{FdeLookup}
-use Rattle.framehop.specs.declared.load_options.FdeLookup.TheVariants.{Auto, Index, Scan}
-use Rattle.framehop.specs.declared.load_options.LoadOptions.{LoadOptions}
-use Rattle.framehop.specs.declared.load_options.TableArch.{TableArch}
+use Rattle.framehop_loads.specs.LoadOptions.{lookup_by}
+use Rattle.framehop_loads.specs.UnwindData.{HasHeaderOfEhFrame, IsHeaderOfEhFrame, bases_of, debug_frame_of, format_with}
+use Rattle.framehop_loads.specs.declared.load_options.FdeLookup.{FdeLookup}
+use Rattle.framehop_loads.specs.declared.load_options.FdeLookup.TheVariants.{Auto, Index, Scan}
+use Rattle.framehop_loads.specs.declared.load_options.LoadOptions.{LoadOptions}
+use Rattle.framehop_loads.specs.declared.load_options.TableArch.{TableArch}
 use Rattle.framehop.proofs.lookup_laws.headers_are_of_eh_frame.Goals as goal
 
 -- without a header none is used

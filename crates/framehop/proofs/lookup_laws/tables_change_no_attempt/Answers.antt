@@ -4,11 +4,12 @@ use Rattle.framehop_modules.specs.Chosen.{base_svmas, chosen_sections}
 use Rattle.framehop_modules.specs.Sections.{Sections}
 use Rattle.framehop_modules.specs.declared.module_sections.ModuleSections.{ModuleSections}
 use Rattle.framehop_modules.specs.declared.module_sections.ModuleSections.TheVariants.{CompactUnwindInfoAndEhFrame, PeUnwindInfo, EhFrame, DebugFrame, NoSections}
-use Rattle.framehop.specs.Attempts.{FormatMeanings, StepLimits, attempt_by_format}
+use Rattle.framehop.specs.Attempts.{FormatMeanings, attempt_by_format}
+use Rattle.framehop_loads.specs.StepLimits.{StepLimits}
 use Rattle.framehop.specs.TableAttempts.{indexed, tabulated}
-use Rattle.framehop.specs.UnwindData.{UnwindData, bases_of, debug_frame_of, format_with, unwind_data_of}
-use Rattle.framehop.specs.declared.load_options.LoadOptions.{LoadOptions}
-use Rattle.framehop.specs.declared.load_options.TableArch.{TableArch}
+use Rattle.framehop_loads.specs.UnwindData.{UnwindData, bases_of, debug_frame_of, format_with, unwind_data_of}
+use Rattle.framehop_loads.specs.declared.load_options.LoadOptions.{LoadOptions}
+use Rattle.framehop_loads.specs.declared.load_options.TableArch.{TableArch}
 use Rattle.framehop.proofs.lookup_laws.tables_change_no_attempt.Goals as goal
 
 module _ {Rule Registers : Type 0} (m : FormatMeanings Rule Registers) (limits : StepLimits) (arch : TableArch) (beside : Bool) (code_rules : CodeRules) (s : Sections) (relative : ℕ) (first : Bool) where

@@ -1,7 +1,7 @@
 use Rattle.std.proofs.Common.{◌≡◌, ◌∙◌, ℕ, suc, ◌+◌, ◌-◌, List, [], ◌∷◌, ◌++◌, map, Bool, ap, sym, arith}
 use Rattle.std.specs.Prelude.{◌&&◌, Option}
 use Rattle.std.proofs.lemmas.List.{map-append}
-use Rattle.framehop.specs.UnwindData.{UnwindData}
+use Rattle.framehop_loads.specs.UnwindData.{UnwindData}
 use Rattle.framehop_registers.specs.declared.code_address.FrameAddress.{FrameAddress}
 use Rattle.framehop_unwinder.specs.ByNumber.{is_held}
 use Rattle.framehop_unwinder.specs.Frames.{Frame, frame_of}

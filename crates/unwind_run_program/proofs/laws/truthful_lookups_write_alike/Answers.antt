@@ -5,7 +5,7 @@ use Rattle.framehop.specs.Attempts.{attempt_by_format, format_meanings}
 use Rattle.framehop.specs.LookupsAlike.{AddressWithin}
 use Rattle.framehop.specs.StepMeanings.{meanings_by}
 use Rattle.framehop.specs.TableMethods.{table_methods}
-use Rattle.framehop.specs.UnwindData.{UnwindData, bases_of}
+use Rattle.framehop_loads.specs.UnwindData.{UnwindData, bases_of}
 use Rattle.framehop_modules.specs.Chosen.{base_svmas}
 use Rattle.framehop_unwinder.specs.Attempt.{Attempt}
 use Rattle.framehop_unwinder.specs.Frames.{lookup_address}

@@ -9,4 +9,4 @@ returns-in-Ok-clause-answers g c =
     covered-as g.A.DwarfUnwinding.rows g.A.DwarfUnwinding.MeetsExpression c.args.is_first_frame g.ES.Stack.ArrayLike.capacity _ _ _ _ _ _ _
     (sym (entry-there g.UCS.UnwindContextStorage.limits g.A.DwarfUnwinding.rows.vendor (frame_section_lent u.bases u.section) u.base_svma c.args.relative_address c.in_ok-address.address c.in_ok-address.ensures.some
     c.in_ok-address.ensures.fits c.args.fde_offset (Ok c.in-Ok.fde) c.in-Ok.ensures))
-    c.unwind_frame_by_known.ensures.answers
+    c.unwind_frame_by_known_fde.ensures.answers

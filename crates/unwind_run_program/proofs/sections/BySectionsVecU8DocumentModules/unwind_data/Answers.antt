@@ -1,7 +1,7 @@
 use Rattle.std.proofs.Common.{◌≡◌, ◌∙◌, ap}
 use Rattle.std.proofs.lemmas.Result.{IfOk-weaker}
-use Rattle.framehop.specs.UnwindData.{UnwindData, unwind_data_with}
-use Rattle.framehop.specs.declared.load_options.LoadOptions.{LoadOptions}
+use Rattle.framehop_loads.specs.UnwindData.{UnwindData, unwind_data_with}
+use Rattle.framehop_loads.specs.declared.load_options.LoadOptions.{LoadOptions}
 use Rattle.framehop_modules.specs.Sections.{Sections}
 use Rattle.unwind_run_document.specs.CommandViews.{sections_view}
 use Rattle.unwind_run_program.specs.SectionViews.{stated}

@@ -1,0 +1,3 @@
+pub mod BothSections
+pub mod SectionsMade
+pub mod Tabulations
