@@ -94,7 +94,7 @@ def line_of(command, arch):
         return f"cache {command.get('slots', 509)}"
     if do in ("unwinder", "clone", "unload", "stats"):
         return " ".join([do, *(str(command[name]) for name in ("unwinder", "cache", "start") if name in command)])
-    if do == "load" and command.get("code_rules") != "known":
+    if do == "load" and command.get("code_rules") != "known" and not command.get("debug_frame_beside"):
         sections = section_lines(command)
         places = " ".join(command[name] for name in ("start", "end", "base", "base_svma"))
         return "\n".join([f"load {command['unwinder']} {places} {len(sections)}", *sections])
