@@ -1,0 +1,8 @@
+use Rattle.std.proofs.Common.{◌∙◌, ap, arith, get_or}
+use Rattle.framehop_x86_instructions.specs.declared.maps.TheConstants.{ONE_BYTE}
+use Rattle.framehop_x86_instructions.specs.declared.operands.Operands.TheVariants.{Undefined}
+use Rattle.framehop_x86_instructions.proofs.OpcodeTables.{in_one_byte}
+use Rattle.framehop_x86_instructions.proofs.maps.one_byte_map.Goals as goal
+
+pub returns : goal.returns
+returns c = ap (λ n. get_or ONE_BYTE n Undefined) c.from.ensures ∙ in_one_byte c.args.opcode Undefined (omega (arith, c.ranges.opcode))
