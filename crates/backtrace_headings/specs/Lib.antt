@@ -1,0 +1,3 @@
+pub mod Headings
+pub mod HeadingViews
+pub mod Signals
