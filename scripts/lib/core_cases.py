@@ -6,12 +6,13 @@ from its /proc/self/maps before its `main`, and the bits of a signature of addre
 
 import collections
 import pathlib
+import re
 import resource
 import subprocess
 import time
 
 from lib import cores
-from lib.tools import give_up, run
+from lib.tools import give_up, output, run
 
 DOWN = """
 #include <stdlib.h>
@@ -243,6 +244,10 @@ ENDED = {
 }
 
 # Each program of the system that is stopped at work: its path and arguments.
+STRIPPED = {
+    "debug-file": (DOWN, "gcc", ["-O1", "-g", "-Wl,--build-id"], ["20"]),
+    "debug-file-clang": (DOWN, "clang", ["-O2", "-fomit-frame-pointer", "-Wl,--build-id"], ["20"]),
+}
 STOPPED = {
     "python3": ("/usr/bin/python3", "-c", "import time\ndef f(n):\n    return f(n - 1) + 1 if n else time.sleep(600)\nf(40)"),
     "python3-sorts": ("/usr/bin/python3", "-c", "import re\nclass A:\n    def __init__(s, n): s.n = n\n    def __lt__(s, o):\n"
@@ -277,7 +282,7 @@ ARM_BUILT = {
 ARM_ROOT = "/usr/aarch64-linux-gnu"
 ARM_MASK = 0x7F << 48
 
-NAMES = [*BUILT, *ENDED, *STOPPED, *ARM_BUILT]
+NAMES = [*BUILT, *ENDED, *STRIPPED, *STOPPED, *ARM_BUILT]
 
 # A program with its core; the debugger for it, with its first commands; and whether eu-stack can be asked.
 Made = collections.namedtuple("Made", "program core debugger by_eu_stack")
@@ -296,7 +301,12 @@ def build(folder, source, compiler, options):
 
 def make_by_gdb(folder, source, compiler, options, arguments):
     """Builds a program, runs it up to its signal, and makes its core."""
-    program, core = build(folder, source, compiler, options), folder / "core"
+    return run_by_gdb(folder, build(folder, source, compiler, options), arguments)
+
+
+def run_by_gdb(folder, program, arguments):
+    """Runs a program up to its signal, and makes its core."""
+    core = folder / "core"
     run("bash", "-c", 'ulimit -s unlimited; MALLOC_ARENA_MAX=1 exec "$@"', "bash", "gdb", "-nx", "-batch", *MAKE, "-ex", "run", "-ex",
         f"generate-core-file {core}", "--args", program, *arguments)
     return Made(program, core, ["gdb", "-nx", "-batch"], True)
@@ -314,6 +324,18 @@ def make_ended(folder, name):
     source, compiler, options, arguments = ENDED[name]
     program = build(folder, source, compiler, options)
     return Made(program, dump_by_linux(folder, program, *arguments), ["gdb", "-nx", "-batch"], False)
+
+
+def make_stripped(folder, name):
+    """Builds a program, moves its symbols to a file that is named by its build id, runs it up to its signal, and makes its core."""
+    source, compiler, options, arguments = STRIPPED[name]
+    program = build(folder, source, compiler, options)
+    identity = re.search(r"Build ID: (\w+)", output("readelf", "-n", program))[1]
+    debug = folder / ".build-id" / identity[:2] / f"{identity[2:]}.debug"
+    debug.parent.mkdir(parents=True)
+    run("objcopy", "--only-keep-debug", program, debug)
+    run("strip", program)
+    return run_by_gdb(folder, program, arguments)
 
 
 def make_stopped(folder, name):
@@ -366,4 +388,4 @@ def make(folder, name):
     if name in BUILT:
         # eu-stack takes more than three minutes of processor for 100,000 frames.
         return make_by_gdb(folder, *BUILT[name])._replace(by_eu_stack=name != "deeper")
-    return (make_ended if name in ENDED else make_stopped if name in STOPPED else make_arm)(folder, name)
+    return (make_ended if name in ENDED else make_stripped if name in STRIPPED else make_stopped if name in STOPPED else make_arm)(folder, name)

@@ -12,6 +12,7 @@ abbrev pub parsed_seen : Said → Parsed
 parsed_seen said = record {
   core = option_copied said.core;
   root = said.root.now;
+  debug_root = said.debug_root.now;
   options = said.options;
   is_help = said.help;
   awaited = said.awaited;
@@ -19,7 +20,7 @@ parsed_seen said = record {
 
 -- the stacks that are asked for
 abbrev pub stacks_seen : CoreRequest → Stacks
-stacks_seen asked = record { core = asked.core.now; root = asked.root.now; options = asked.options }
+stacks_seen asked = record { core = asked.core.now; root = asked.root.now; debug_root = asked.debug_root.now; options = asked.options }
 
 -- what is asked for
 abbrev pub request_seen : Asked → Request

@@ -2,15 +2,16 @@
 use Rattle.std.specs.Prelude.{ℕ, ◌+◌, ◌-◌, ◌*◌, ◌^◌, ◌==◌, ◌&&◌, ◌||◌, Bool, true, false, nat_le, nat_lt, if◌then◌else◌, List, [], ◌∷◌, codes, bytes_eq, Option, Some, None, is_some, option_and_then, option_map}
 use Rattle.std.specs.List.{list_any}
 use Rattle.backtrace.specs.declared.arguments.Awaited.{Awaited}
-use Rattle.backtrace.specs.declared.arguments.Awaited.TheVariants.{Word, Root, Thread, Limit}
+use Rattle.backtrace.specs.declared.arguments.Awaited.TheVariants.{Word, Root, DebugRoot, Thread, Limit}
 use Rattle.backtrace_text.specs.declared.names.FunctionNames.TheVariants.{Demangled, Raw}
 use Rattle.backtrace_walks.specs.declared.backtraces.BacktraceOptions.{BacktraceOptions}
 use Rattle.backtrace_walks.specs.declared.backtraces.FrameOptions.{FrameOptions}
 
--- The stacks that are asked for: of the core at a path, whose files are below a folder.
+-- The stacks that are asked for: of the core at a path, whose files are below a folder, and files with their symbols below another.
 pub record Stacks : Type 0 where
   pub core : List ℕ
   pub root : List ℕ
+  pub debug_root : List ℕ
   pub options : BacktraceOptions
 
 -- the stacks of a core, the findings of the files at some paths, or how the program is called
@@ -23,6 +24,7 @@ pub data Request : Type 0 where
 pub record Parsed : Type 0 where
   pub core : Option (List ℕ)
   pub root : List ℕ
+  pub debug_root : List ℕ
   pub options : BacktraceOptions
   pub is_help : Bool
   pub awaited : Awaited
@@ -66,6 +68,7 @@ with_frames frames parsed = record parsed { options = record parsed.options { fr
 abbrev pub parsed_word : Parsed → List ℕ → Option Parsed
 parsed_word parsed word =
     if bytes_eq word (codes "--root") then Some (record parsed { awaited = Root })
+    else if bytes_eq word (codes "--debug-root") then Some (record parsed { awaited = DebugRoot })
     else if bytes_eq word (codes "--thread") then Some (record parsed { awaited = Thread })
     else if bytes_eq word (codes "--limit") then Some (record parsed { awaited = Limit })
     else if bytes_eq word (codes "--registers") then Some (with_frames (record parsed.options.frames { registers = true }) parsed)
@@ -87,6 +90,7 @@ parsed_limit parsed word =
 abbrev pub parsed_as : Awaited → Parsed → List ℕ → Option Parsed
 parsed_as Word parsed word = parsed_word parsed word
 parsed_as Root parsed word = Some (record parsed { root = word; awaited = Word })
+parsed_as DebugRoot parsed word = Some (record parsed { debug_root = word; awaited = Word })
 parsed_as Thread parsed word = parsed_thread parsed word
 parsed_as Limit parsed word = parsed_limit parsed word
 
@@ -99,11 +103,13 @@ abbrev pub parsed_words : Parsed → List (List ℕ) → Option Parsed
 parsed_words parsed [] = Some parsed
 parsed_words parsed (word ∷ words) = option_and_then (λ next. parsed_words next words) (parsed_next parsed word)
 
--- nothing was said yet: all threads, up to 2^20 frames of each, and names as they are written in programs
+-- nothing was said yet: all threads, up to 2^20 frames of each, names as they are written in programs, and the folder in which
+-- distributions have files with symbols
 abbrev pub nothing_said : Parsed
 nothing_said = record {
   core = None;
   root = [];
+  debug_root = codes "/usr/lib/debug";
   options = record { thread = None; limit = 2 ^ 20; frames = record { registers = false; names = Demangled } };
   is_help = false;
   awaited = Word;
@@ -111,8 +117,10 @@ nothing_said = record {
 
 -- the stacks that words ask for, if they name a core, and no value of an option is missing
 abbrev pub stacks_by : Awaited → Parsed → Option Request
-stacks_by Word parsed = option_map (λ core. stacks (record { core = core; root = parsed.root; options = parsed.options })) parsed.core
+stacks_by Word parsed =
+    option_map (λ core. stacks (record { core = core; root = parsed.root; debug_root = parsed.debug_root; options = parsed.options })) parsed.core
 stacks_by Root parsed = None
+stacks_by DebugRoot parsed = None
 stacks_by Thread parsed = None
 stacks_by Limit parsed = None
 

@@ -9,14 +9,15 @@ use backtrace_walks::{BacktraceOptions, FrameOptions};
 
 /// How the program is called.
 pub(crate) const USAGE: &str =
-    "usage: backtrace CORE [--root DIR] [--thread ID] [--limit N] [--registers] [--raw-names]
+    "usage: backtrace CORE [--root DIR] [--debug-root DIR] [--thread ID] [--limit N] [--registers] [--raw-names]
        backtrace --lint FILE..
-Prints the stacks of the threads of a core file.
-  --root DIR     reads the files that the core names below DIR
-  --thread ID    prints the stack of this thread alone
-  --limit N      prints at most N frames of a stack, 1048576 without it
-  --registers    prints the registers of each frame too
-  --raw-names    prints names of functions as symbols have them, not as they are written in programs
+Prints why the process of a core file died, and the stacks of its threads.
+  --root DIR        reads the files that the core names below DIR
+  --debug-root DIR  looks for files with symbols below DIR, by their build ids, and not below /usr/lib/debug
+  --thread ID       prints the stack of this thread alone
+  --limit N         prints at most N frames of a stack, 1048576 without it
+  --registers       prints the registers of each frame too
+  --raw-names       prints names of functions as symbols have them, not as they are written in programs
 With --lint prints what an unwinder meets in the call frames of ELF files: the error that ends the entries of .eh_frame, or of
 .debug_frame if a file has no .eh_frame, the FDEs that an index leaves out and those that overlap, the rows that no unwind rule
 expresses or that fail, and why an .eh_frame_hdr isn't truthful. The exit status is 1 if it prints something, 2 if a file can't
@@ -25,6 +26,9 @@ be read.";
 // The most frames of a stack, if no limit is said.
 const DEFAULT_LIMIT: u64 = 1 << 20;
 
+// The folder where distributions have files with symbols.
+const DEFAULT_DEBUG_ROOT: &str = "/usr/lib/debug";
+
 /// The stacks that a run is asked for.
 #[derive(Clone, Copy, Debug)]
 pub(crate) struct CoreRequest<'a> {
@@ -32,6 +36,8 @@ pub(crate) struct CoreRequest<'a> {
     pub(crate) core: &'a str,
     /// The folder that the names of mapped files are below, or no text.
     pub(crate) root: &'a str,
+    /// The folder that files with symbols are below, by their build ids.
+    pub(crate) debug_root: &'a str,
     /// Which stacks, and how much of each.
     pub(crate) options: BacktraceOptions,
 }
@@ -54,6 +60,8 @@ enum Awaited {
     Word,
     // The folder of `--root`.
     Root,
+    // The folder of `--debug-root`.
+    DebugRoot,
     // The number of `--thread`.
     Thread,
     // The number of `--limit`.
@@ -65,6 +73,7 @@ enum Awaited {
 struct Parsed<'a> {
     core: Option<&'a str>,
     root: &'a str,
+    debug_root: &'a str,
     options: BacktraceOptions,
     help: bool,
     awaited: Awaited,
@@ -156,6 +165,10 @@ fn parsed_word<'a>(parsed: Parsed<'a>, word: &'a str) -> Option<Parsed<'a>>
             awaited: Awaited::Root,
             ..parsed
         }),
+        "--debug-root" => Some(Parsed {
+            awaited: Awaited::DebugRoot,
+            ..parsed
+        }),
         "--thread" => Some(Parsed {
             awaited: Awaited::Thread,
             ..parsed
@@ -231,6 +244,11 @@ fn parsed_next<'a>(parsed: Parsed<'a>, word: &'a str) -> Option<Parsed<'a>>
             awaited: Awaited::Word,
             ..parsed
         }),
+        Awaited::DebugRoot => Some(Parsed {
+            debug_root: word,
+            awaited: Awaited::Word,
+            ..parsed
+        }),
         Awaited::Thread => parsed_thread(parsed, word),
         Awaited::Limit => parsed_limit(parsed, word),
     }
@@ -250,6 +268,7 @@ fn request_by<'a>(parsed: Parsed<'a>) -> Option<Request<'a>>
         Some(core) => Some(Request::Stacks(CoreRequest {
             core,
             root: parsed.root,
+            debug_root: parsed.debug_root,
             options: parsed.options,
         })),
         None => None,
@@ -263,6 +282,7 @@ fn stacks_request(words: &[String]) -> Option<Request<'_>>
     let mut parsed = Parsed {
         core: None,
         root: "",
+        debug_root: DEFAULT_DEBUG_ROOT,
         options: BacktraceOptions {
             thread: None,
             limit: DEFAULT_LIMIT,

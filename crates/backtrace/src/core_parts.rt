@@ -1,10 +1,10 @@
 //! A core, as the system gives it: in parts, so that the pages of stacks that were never used take no memory. They are most of a
 //! core of many threads.
 
-use crate::files::first_bytes;
 use anyhow::Result;
 use core_files::SegmentBytes;
 use elf_files::{ElfError, ElfFile, FileKind, Segment, SegmentKind};
+use regular_files::first_bytes;
 use std::alloc::AllocError;
 use std::fs;
 use std::fs::File;

@@ -1,12 +1,13 @@
 //! The files that are mapped into a core's process, as the system gives them.
 
-use anyhow::Result;
-use backtrace_text::push_name;
-use core_files::{CoreFile, MappedFile};
+use crate::arguments::CoreRequest;
+use backtrace_files::{build_id_of, is_debug_file_of};
+use core_files::MappedFile;
+use elf_files::ElfFile;
+use function_index::has_symbol_table;
+use regular_files::{build_id_path, elf_bytes};
 use std::alloc::{AllocError, Global};
-use std::fs::File;
-use std::os::unix::fs::FileExt;
-use std::{fs, io, str};
+use std::{io, str};
 
 /// A file that a core names, with its bytes if they could be read.
 #[derive(Debug, Drop)]
@@ -15,6 +16,8 @@ pub(crate) struct NamedFile<'a> {
     pub(crate) name: &'a [u8],
     /// The bytes, or why there are none.
     pub(crate) bytes: io::Result<Vec<u8>>,
+    /// The bytes of the file with its symbols, if it has none itself and there is one.
+    pub(crate) debug: Option<Vec<u8>>,
 }
 
 // The file of this name, if it was read before.
@@ -27,75 +30,93 @@ fn file_named<'f, 'a>(files: &'f [NamedFile<'a>], name: &[u8]) -> Option<&'f Nam
     None
 }
 
-/// So many bytes of a file from its start on, in as much memory.
-pub(crate) fn first_bytes(rt: &HostRuntime, file: &File, size: u64) -> io::Result<Vec<u8>> {
-    let mut bytes = Vec::new(rt.alloc());
-    bytes.resize(size as usize, 0)?;
-    file.read_exact_at(&mut bytes, 0)?;
-    Ok(bytes)
-}
-
-// Whether a file of this size begins as ELF files do.
-fn begins_as_elf(rt: &HostRuntime, file: &File, size: u64) -> io::Result<bool> {
-    let start = first_bytes(rt, file, size.min(4))?;
-    Ok(start.as_slice() == b"\x7fELF".as_slice())
-}
-
-// The bytes of a regular file, or no bytes if it isn't an ELF file, since such a file may be large and has no code. Any other, as a
-// device, isn't opened.
-fn read_regular(rt: &HostRuntime, path: &str) -> io::Result<Vec<u8>> {
-    let metadata = fs::metadata(rt, path)?;
-    if !metadata.is_file() {
-        return Err(io::Error::from(io::ErrorKind::InvalidInput));
-    }
-    let size = metadata.len();
-    let file = File::open(rt, path)?;
-    if begins_as_elf(rt, &file, size)? {
-        first_bytes(rt, &file, size)
-    } else {
-        Ok(Vec::new(rt.alloc()))
-    }
-}
-
-// The bytes of a file that a core names, below a folder.
+// The bytes of a file that a core names, below a folder. One that isn't an ELF file has no code: it has none.
 fn read_below(rt: &HostRuntime, root: &str, name: &[u8]) -> io::Result<Vec<u8>> {
     let Ok(name) = str::from_utf8(name) else {
         return Err(io::Error::from(io::ErrorKind::InvalidInput));
     };
     let path = format!(in rt.alloc(); "{root}{name}")?;
-    read_regular(rt, path.as_str())
+    match elf_bytes(rt, path.as_str())? {
+        Some(bytes) => Ok(bytes),
+        None => Ok(Vec::new(rt.alloc())),
+    }
 }
 
-/// Reads the files that a core names, each once, below a folder.
+// The bytes of the file with the symbols of one with these bytes, if this has a build id and no symbols, and there is one below a folder.
+fn read_debug(rt: &HostRuntime, folder: &str, bytes: &[u8]) -> Result<Option<Vec<u8>>, AllocError> {
+    let Ok(elf) = ElfFile::parse(bytes) else {
+        return Ok(None);
+    };
+    let Some(build_id) = build_id_of(bytes) else {
+        return Ok(None);
+    };
+    if has_symbol_table(&elf) {
+        return Ok(None);
+    }
+    let folder = format!(in rt.alloc(); "{folder}/.build-id")?;
+    let path = build_id_path(rt.alloc(), folder.as_str(), build_id, ".debug")?;
+    match elf_bytes(rt, path.as_str()) {
+        Ok(found) => Ok(found),
+        Err(_) => Ok(None),
+    }
+}
+
+// Reads the file that a core names, below a folder, and the one with its symbols, below another.
+fn read_file<'a>(
+    rt: &HostRuntime,
+    request: &CoreRequest<'_>,
+    name: &'a [u8],
+) -> Result<NamedFile<'a>, AllocError> {
+    let bytes = read_below(rt, request.root, name);
+    let debug = match &bytes {
+        Ok(known) => read_debug(rt, request.debug_root, known.as_slice())?,
+        Err(_) => None,
+    };
+    Ok(NamedFile { name, bytes, debug })
+}
+
+/// Reads the files that a core names, each once, and those with their symbols.
 pub(crate) fn read_files<'a>(
     rt: &HostRuntime,
-    root: &str,
+    request: &CoreRequest<'_>,
     mappings: &[MappedFile<'a>],
-) -> Result<Vec<NamedFile<'a>>> {
+) -> Result<Vec<NamedFile<'a>>, AllocError> {
     let mut files = Vec::new(rt.alloc());
     for mapping in mappings {
         if file_named(files.as_slice(), mapping.name).is_none() {
-            files.push(NamedFile {
-                name: mapping.name,
-                bytes: read_below(rt, root, mapping.name),
-            })?;
+            files.push(read_file(rt, request, mapping.name)?)?;
         }
     }
     Ok(files)
 }
 
-// The bytes of the file of this name.
-fn bytes_named<'f>(files: &'f [NamedFile<'_>], name: &[u8]) -> Option<&'f [u8]> {
-    match file_named(files, name) {
-        Some(file) => match &file.bytes {
+impl NamedFile<'_> {
+    // Its bytes, if they could be read.
+    fn known_bytes(&self) -> Option<&[u8]> {
+        match &self.bytes {
             Ok(bytes) => Some(bytes.as_slice()),
             Err(_) => None,
-        },
-        None => None,
+        }
+    }
+
+    // Those of the file with its symbols.
+    fn debug_bytes(&self) -> Option<&[u8]> {
+        match &self.debug {
+            Some(bytes) => Some(bytes.as_slice()),
+            None => None,
+        }
+    }
+
+    /// Whether the file with its symbols is that of another file.
+    pub(crate) fn has_other_symbols(&self) -> bool {
+        match (self.known_bytes(), self.debug_bytes()) {
+            (Some(bytes), Some(debug)) => !is_debug_file_of(bytes, debug),
+            _ => false,
+        }
     }
 }
 
-/// The bytes of each mapped file of a core, in the order of the core.
+/// The bytes of the file of each mapping, in the order of the core.
 pub(crate) fn contents_of<'f>(
     alloc: Global,
     files: &'f [NamedFile<'_>],
@@ -103,7 +124,20 @@ pub(crate) fn contents_of<'f>(
 ) -> Result<Vec<Option<&'f [u8]>>, AllocError> {
     let mut contents = Vec::new(alloc);
     for mapping in mappings {
-        contents.push(bytes_named(files, mapping.name))?;
+        contents.push(file_named(files, mapping.name).and_then(NamedFile::known_bytes))?;
+    }
+    Ok(contents)
+}
+
+/// Those of the file with its symbols.
+pub(crate) fn debug_contents_of<'f>(
+    alloc: Global,
+    files: &'f [NamedFile<'_>],
+    mappings: &[MappedFile<'_>],
+) -> Result<Vec<Option<&'f [u8]>>, AllocError> {
+    let mut contents = Vec::new(alloc);
+    for mapping in mappings {
+        contents.push(file_named(files, mapping.name).and_then(NamedFile::debug_bytes))?;
     }
     Ok(contents)
 }

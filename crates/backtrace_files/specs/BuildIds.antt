@@ -46,6 +46,16 @@ differ None other = false
 differ (Some one) None = true
 differ (Some one) (Some other) = not (bytes_eq one other)
 
+-- both build ids are known, and the same
+abbrev pub agree : Option (List ℕ) → Option (List ℕ) → Bool
+agree None other = false
+agree (Some one) None = false
+agree (Some one) (Some other) = bytes_eq one other
+
+-- a file has what debuggers read of one with these bytes (GDB, "Debugging Information in Separate Files"): both have the same build id
+abbrev pub is_debug_file_of : List ℕ → List ℕ → Bool
+is_debug_file_of bytes debug = agree (build_id_of bytes) (build_id_of debug)
+
 -- the core has a build id of the file of this name, and the file with these bytes has another one or none
 abbrev pub has_other_build_id : CoreContents → List ℕ → List ℕ → Bool
 has_other_build_id core name bytes = differ (build_id_at core name) (build_id_of bytes)

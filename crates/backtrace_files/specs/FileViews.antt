@@ -7,9 +7,9 @@ use Rattle.backtrace_files.specs.Files.{CodeOfFile, ProcessFile, range_of}
 use Rattle.backtrace_files.specs.declared.code.LoadedCode.{LoadedCode}
 use Rattle.backtrace_files.specs.declared.loaded_file.LoadedFile.{LoadedFile}
 
--- A mapped file, with its bytes if they are there.
+-- A mapped file, with its bytes and those of its debug file, if they are there.
 abbrev pub file_seen : LoadedFile → ProcessFile
-file_seen file = record { mapping = mapping_of file.mapping; bytes = option_copied file.bytes }
+file_seen file = record { mapping = mapping_of file.mapping; bytes = option_copied file.bytes; debug = option_copied file.debug }
 
 -- Mapped files.
 abbrev pub files_seen : List LoadedFile → List ProcessFile

@@ -15,10 +15,11 @@ use Rattle.elf_files.specs.declared.segment.Segment.{Segment}
 use Rattle.elf_files.specs.declared.segment.SegmentKind.{SegmentKind}
 use Rattle.elf_files.specs.declared.segment.SegmentKind.TheVariants.{Load}
 
--- A mapping of a file, and the bytes of the whole file, if they are there.
+-- A mapping of a file, the bytes of the whole file, if they are there, and those of its debug file, if there is one.
 pub record ProcessFile : Type 0 where
   pub mapping : FileMapping
   pub bytes : Option (List ℕ)
+  pub debug : Option (List ℕ)
 
 -- what a mapped file has of memory
 abbrev pub range_of : ProcessFile → Option KnownRange

@@ -1,6 +1,7 @@
 pub mod BuildIds
 pub mod FileViews
 pub mod Files
+pub mod GivenViews
 pub mod Locations
 pub mod ProcessFiles
 pub mod Results

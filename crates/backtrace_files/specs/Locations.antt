@@ -1,11 +1,13 @@
 -- The function and the file at an address.
 use Rattle.std.specs.Prelude.{ℕ, ◌+◌, ◌-◌, ◌^◌, ◌&&◌, ◌||◌, Bool, false, is_none, is_some, min, nat_le, nat_lt, if◌then◌else◌, List, Option, Some, None, option_and_then}
 use Rattle.std.specs.List.{find}
-use Rattle.std.specs.Option.{option_map}
+use Rattle.std.specs.Option.{option_map, option_or}
 use Rattle.std.specs.Result.{result_ok}
 use Rattle.backtrace_text.specs.Frames as seen
 use Rattle.core_files.specs.MappedFiles.{FileMapping}
+use Rattle.elf_files.specs.Header.{header_of}
 use Rattle.elf_files.specs.Symbols.{NamedSymbol, symbol_for_address}
+use Rattle.elf_files.specs.declared.header.Header.{Header}
 use Rattle.backtrace_files.specs.Files.{CodeOfFile, ProcessFile, loaded_code}
 
 -- an address is mapped from a file
@@ -24,9 +26,18 @@ may_have_code file = is_none file.bytes || is_some (loaded_code file)
 abbrev pub may_be_code_at : List ProcessFile → ℕ → Bool
 may_be_code_at files address = elim (file_at files address) [ Some file ↦ may_have_code file | None ↦ false ]
 
--- the function of a file at an address of the file, if its symbols can be read and have one
-abbrev pub symbol_at : CodeOfFile → ℕ → Option NamedSymbol
-symbol_at code address = option_and_then (λ symbol. symbol) (result_ok (symbol_for_address code.bytes code.header address))
+-- the function at an address of a file with these bytes and this header, if its symbols can be read and have one
+abbrev pub symbol_in : List ℕ → Header → ℕ → Option NamedSymbol
+symbol_in bytes header address = option_and_then (λ symbol. symbol) (result_ok (symbol_for_address bytes header address))
+
+-- the same by a debug file, whose symbols have the addresses of its file
+abbrev pub debug_symbol : List ℕ → ℕ → Option NamedSymbol
+debug_symbol bytes address = option_and_then (λ header. symbol_in bytes header address) (result_ok (header_of bytes))
+
+-- the function of a file at an address of the file: by its debug file, if there is one that has it, or else by its own symbols
+abbrev pub symbol_at : Option (List ℕ) → CodeOfFile → ℕ → Option NamedSymbol
+symbol_at debug code address =
+    option_or (option_and_then (λ bytes. debug_symbol bytes address) debug) (symbol_in code.bytes code.header address)
 
 -- the address in the file of an address in memory, from where the segment with the code begins, in 64 bits
 abbrev pub stated_address : CodeOfFile → ℕ → Option ℕ
@@ -39,14 +50,14 @@ abbrev pub from_start : ℕ → NamedSymbol → seen.Offset
 from_start stated symbol = record { name = symbol.name; offset = stated - symbol.value }
 
 -- the function of a file at an address, looked up by another
-abbrev pub function_in : CodeOfFile → ℕ → ℕ → Option seen.Offset
-function_in code address lookup =
-    option_and_then (λ stated. option_map (from_start stated) (option_and_then (symbol_at code) (stated_address code lookup)))
+abbrev pub function_in : Option (List ℕ) → CodeOfFile → ℕ → ℕ → Option seen.Offset
+function_in debug code address lookup =
+    option_and_then (λ stated. option_map (from_start stated) (option_and_then (symbol_at debug code) (stated_address code lookup)))
     (stated_address code address)
 
 -- the same of a mapped file
 abbrev pub function_at : ProcessFile → ℕ → ℕ → Option seen.Offset
-function_at file address lookup = option_and_then (λ code. function_in code address lookup) (loaded_code file)
+function_at file address lookup = option_and_then (λ code. function_in file.debug code address lookup) (loaded_code file)
 
 -- the place of an address in a mapped file, in 64 bits
 abbrev pub place_in : FileMapping → ℕ → seen.Offset

@@ -6,7 +6,7 @@ ghost use Rattle.core_files.specs.CoreViews.{contents_of};
 ghost use Rattle.core_files.specs.FileViews.{mapping_of};
 ghost use Rattle.core_files.specs.NoteViews.{mappings_of};
 ghost use Rattle.core_files.specs.RangeViews.{ranges_seen};
-ghost use Rattle.backtrace_files.specs.BuildIds.{build_id_at, build_id_of, begins_file, differ, file_at, first_mapping, id_without_sections, has_other_build_id};
+ghost use Rattle.backtrace_files.specs.BuildIds.{agree, build_id_at, build_id_of, begins_file, differ, file_at, first_mapping, id_without_sections, has_other_build_id, is_debug_file_of};
 
 use core_files::{CoreFile, MappedFile, MemoryRange};
 use elf_files::{ElfFile, Header};
@@ -60,8 +60,8 @@ fn id_without_sections<'a>(bytes: &'a [u8]) -> Option<&'a [u8]>
     }
 }
 
-// The build id of a file.
-fn build_id_of<'a>(bytes: &'a [u8]) -> Option<&'a [u8]>
+/// The build id of a file with these bytes, if it has one that can be read.
+pub fn build_id_of<'a>(bytes: &'a [u8]) -> Option<&'a [u8]>
     ensures { option_copied result ≡ build_id_of bytes.now }
 {
     let Ok(elf) = ElfFile::parse(bytes) else {
@@ -97,6 +97,23 @@ fn differ(one: Option<&[u8]>, other: Option<&[u8]>) -> bool
         },
         None => false,
     }
+}
+
+// Whether both build ids are known, and the same.
+fn agree(one: Option<&[u8]>, other: Option<&[u8]>) -> bool
+    ensures { result ≡ agree (option_copied one.entry) (option_copied other.entry) }
+{
+    match (one, other) {
+        (Some(one), Some(other)) => one == other,
+        _ => false,
+    }
+}
+
+/// Whether a file has what debuggers read of one with these bytes: both have the same build id.
+pub fn is_debug_file_of(bytes: &[u8], debug: &[u8]) -> bool
+    ensures { result ≡ is_debug_file_of bytes.now debug.now }
+{
+    agree(build_id_of(bytes), build_id_of(debug))
 }
 
 /// Whether a file with these bytes isn't the one of this name that was mapped: the core has a build id of that, and the file has

@@ -6,13 +6,23 @@ ghost use Rattle.core_files.specs.CoreViews.{contents_of};
 ghost use Rattle.core_files.specs.FileViews.{mapping_of};
 ghost use Rattle.core_files.specs.NoteViews.{mappings_of};
 ghost use Rattle.backtrace_files.specs.FileViews.{file_seen};
-ghost use Rattle.backtrace_files.specs.ProcessFiles.{file_with, files_with, given_bytes, kept_bytes, process_files, shared_object};
+ghost use Rattle.backtrace_files.specs.GivenViews.{contents_seen};
+ghost use Rattle.backtrace_files.specs.ProcessFiles.{file_by, file_with, files_with, given_bytes, kept_bytes, kept_debug, process_files, shared_object};
 ghost use Rattle.backtrace_files.specs.Results.{IfOkAre};
 
-use crate::build_ids::{file_at, has_other_build_id};
+use crate::build_ids::{file_at, has_other_build_id, is_debug_file_of};
 use crate::loaded_file::LoadedFile;
 use core_files::{CoreFile, MappedFile};
 use std::alloc::{AllocError, Global};
+
+/// The bytes of the files that are mapped into a process, as far as they are there.
+#[derive(Clone, Copy, Debug)]
+pub struct FileContents<'f, 'a> {
+    /// Those of the mapped files, by the numbers of the mappings.
+    pub files: &'f [Option<&'a [u8]>],
+    /// Those of the files with their symbols, by the same numbers.
+    pub debug: &'f [Option<&'a [u8]>],
+}
 
 // The type of the entry of the auxiliary vector with the address of the virtual shared object.
 const AT_SYSINFO_EHDR: u64 = 33;
@@ -36,6 +46,20 @@ fn kept_bytes<'a>(
     }
 }
 
+// The bytes of the debug file of a file, if they are those of one.
+fn kept_debug<'a>(bytes: &[u8], given: Option<&'a [u8]>) -> Option<&'a [u8]>
+    ensures { option_copied result ≡ kept_debug bytes.now (option_copied given.entry) }
+{
+    let Some(debug) = given else {
+        return None;
+    };
+    if is_debug_file_of(bytes, debug) {
+        Some(debug)
+    } else {
+        None
+    }
+}
+
 // The bytes that are given by a number.
 fn given_bytes<'a>(contents: &[Option<&'a [u8]>], number: usize) -> Option<&'a [u8]>
     ensures { option_copied result ≡ given_bytes (map option_copied contents.now) number }
@@ -46,31 +70,48 @@ fn given_bytes<'a>(contents: &[Option<&'a [u8]>], number: usize) -> Option<&'a [
     }
 }
 
-// A mapping with its bytes, which are given by its number.
+// A mapping with the bytes of its file, and what is given for the debug file of this.
+fn file_by<'a>(
+    mapping: &MappedFile<'a>,
+    bytes: Option<&'a [u8]>,
+    given: Option<&'a [u8]>,
+) -> LoadedFile<'a>
+    ensures { file_seen result
+        ≡ file_by (mapping_of mapping.now) (option_copied bytes.entry) (option_copied given.entry) }
+{
+    LoadedFile {
+        mapping: *mapping,
+        bytes,
+        debug: match bytes {
+            Some(known) => kept_debug(known, given),
+            None => None,
+        },
+    }
+}
+
+// A mapping with what is given by its number.
 fn file_with<'a>(
     core: &CoreFile<'a>,
-    contents: &[Option<&'a [u8]>],
+    contents: &FileContents<'_, 'a>,
     number: usize,
     mapping: &MappedFile<'a>,
 ) -> LoadedFile<'a>
     ensures { file_seen result ≡ file_with (contents_of core.now)
-        (map option_copied contents.now) number (mapping_of mapping.now) }
+        (contents_seen contents.now) number (mapping_of mapping.now) }
 {
-    LoadedFile {
-        mapping: *mapping,
-        bytes: kept_bytes(core, mapping, given_bytes(contents, number)),
-    }
+    let bytes = kept_bytes(core, mapping, given_bytes(contents.files, number));
+    file_by(mapping, bytes, given_bytes(contents.debug, number))
 }
 
-// Mapped files of a core in their order, with the bytes that are given by their numbers.
+// Mapped files of a core in their order, with what is given by their numbers.
 fn files_with<'a>(
     alloc: Global,
     core: &CoreFile<'a>,
     mappings: &[MappedFile<'a>],
-    contents: &[Option<&'a [u8]>],
+    contents: &FileContents<'_, 'a>,
 ) -> Result<Vec<LoadedFile<'a>>, AllocError>
     ensures { IfOkAre file_seen result (files_with (contents_of core.now)
-        (map option_copied contents.now) (mappings_of mappings.now)) }
+        (contents_seen contents.now) (mappings_of mappings.now)) }
 {
     let mut files = Vec::new(alloc);
     for (number, mapping) in mappings.iter().enumerate() {
@@ -97,18 +138,19 @@ fn shared_object<'a>(core: &CoreFile<'a>) -> Option<LoadedFile<'a>>
             name: b"[vdso]",
         },
         bytes: Some(bytes),
+        debug: None,
     })
 }
 
-/// The files of a core's process, in the order of the core, and then the virtual shared object, if the core has it. `contents` has
-/// the bytes of the mapped files by their numbers; those of a file with another build id are left out.
+/// The files of a core's process, in the order of the core, and then the virtual shared object, if the core has it, with the bytes that are
+/// given. Those of a file with another build id than the core has are left out, and those of a debug file that hasn't its file's.
 pub fn process_files<'a>(
     alloc: Global,
     core: &CoreFile<'a>,
-    contents: &[Option<&'a [u8]>],
+    contents: &FileContents<'_, 'a>,
 ) -> Result<Vec<LoadedFile<'a>>, AllocError>
     ensures { IfOkAre file_seen result
-        (process_files (contents_of core.now) (map option_copied contents.now)) }
+        (process_files (contents_of core.now) (contents_seen contents.now)) }
 {
     let mut files = files_with(alloc, core, core.mapped_files(), contents)?;
     if let Some(object) = shared_object(core) {

@@ -8,13 +8,15 @@ ghost use Rattle.backtrace_files.specs.FileViews.{files_seen, range_seen};
 use core_files::{MappedFile, MemoryRange};
 use std::alloc::{AllocError, Global};
 
-/// A file, or a part of one, that is mapped into a process, with the bytes of the whole file, if they are there.
+/// A file, or a part of one, that is mapped into a process, with the bytes of the whole file and of its debug file, if they are there.
 #[derive(Clone, Copy, Debug)]
 pub struct LoadedFile<'a> {
     /// The mapping.
     pub mapping: MappedFile<'a>,
     /// All bytes of the file.
     pub bytes: Option<&'a [u8]>,
+    /// All bytes of the file with its symbols.
+    pub debug: Option<&'a [u8]>,
 }
 
 // Adds what a mapped file has of the memory of its process, if its bytes are there.

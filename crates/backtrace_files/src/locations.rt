@@ -1,17 +1,18 @@
 //! Functions and files at addresses.
 
-ghost use Rattle.std.specs.Prelude.{◌≡◌, option_map};
+ghost use Rattle.std.specs.Prelude.{◌≡◌, option_and_then, option_map};
+ghost use Rattle.std.specs.Option.{option_copied};
 ghost use Rattle.core_files.specs.FileViews.{mapping_of};
 ghost use Rattle.elf_files.specs.SymbolViews.{symbol_seen};
 ghost use Rattle.backtrace_text.specs.FrameViews.{location_view, offset_view};
 ghost use Rattle.backtrace_files.specs.FileViews.{code_seen, file_seen, files_seen};
-ghost use Rattle.backtrace_files.specs.Locations.{file_at, function_at, function_in, is_mapped, location_of, may_be_code_at, may_have_code, place_in, stated_address, symbol_at};
+ghost use Rattle.backtrace_files.specs.Locations.{debug_symbol, file_at, function_at, function_in, is_mapped, location_of, may_be_code_at, may_have_code, place_in, stated_address, symbol_at, symbol_in};
 
 use crate::code::{LoadedCode, loaded_code};
 use crate::loaded_file::LoadedFile;
 use backtrace_text::{CodeLocation, NamedOffset};
 use core_files::MappedFile;
-use elf_files::Symbol;
+use elf_files::{ElfFile, Symbol};
 
 // Whether an address is mapped from a file.
 fn is_mapped(mapping: &MappedFile<'_>, address: u64) -> bool
@@ -51,12 +52,44 @@ pub fn may_be_code_at(files: &[LoadedFile<'_>], address: u64) -> bool
 }
 
 // The function of a file at an address of the file, if its symbols can be read and have one.
-fn symbol_at<'a>(code: &LoadedCode<'a>, address: u64) -> Option<Symbol<'a>>
-    ensures { option_map symbol_seen result ≡ symbol_at (code_seen code.now) address }
+fn symbol_in<'a>(file: &ElfFile<'a>, address: u64) -> Option<Symbol<'a>>
+    ensures { option_map symbol_seen result ≡ symbol_in file.now.bytes.now file.now.header address }
 {
-    match code.file.symbol_for_address(address) {
+    match file.symbol_for_address(address) {
         Ok(symbol) => symbol,
         Err(_) => None,
+    }
+}
+
+// The same by a debug file with these bytes.
+fn debug_symbol<'a>(bytes: &'a [u8], address: u64) -> Option<Symbol<'a>>
+    ensures { option_map symbol_seen result ≡ debug_symbol bytes.now address }
+{
+    match ElfFile::parse(bytes) {
+        Ok(file) => symbol_in(&file, address),
+        Err(_) => None,
+    }
+}
+
+// The same by a debug file, if there is one.
+fn debug_symbol_if<'a>(debug: Option<&'a [u8]>, address: u64) -> Option<Symbol<'a>>
+    ensures { option_map symbol_seen result
+        ≡ option_and_then (λ bytes. debug_symbol bytes address) (option_copied debug.entry) }
+{
+    match debug {
+        Some(bytes) => debug_symbol(bytes, address),
+        None => None,
+    }
+}
+
+// The function of a file at an address of the file: by its debug file, if there is one that has it, or else by its own symbols.
+fn symbol_at<'a>(debug: Option<&'a [u8]>, code: &LoadedCode<'a>, address: u64) -> Option<Symbol<'a>>
+    ensures { option_map symbol_seen result
+        ≡ symbol_at (option_copied debug.entry) (code_seen code.now) address }
+{
+    match debug_symbol_if(debug, address) {
+        Some(symbol) => Some(symbol),
+        None => symbol_in(&code.file, address),
     }
 }
 
@@ -69,11 +102,17 @@ fn stated_address(code: &LoadedCode<'_>, address: u64) -> Option<u64>
 }
 
 // The function of a file at an address, looked up by another, with the distance from its start.
-fn function_in<'a>(code: &LoadedCode<'a>, address: u64, lookup: u64) -> Option<NamedOffset<'a>>
-    ensures { option_map offset_view result ≡ function_in (code_seen code.now) address lookup }
+fn function_in<'a>(
+    debug: Option<&'a [u8]>,
+    code: &LoadedCode<'a>,
+    address: u64,
+    lookup: u64,
+) -> Option<NamedOffset<'a>>
+    ensures { option_map offset_view result
+        ≡ function_in (option_copied debug.entry) (code_seen code.now) address lookup }
 {
     let stated = stated_address(code, address)?;
-    let symbol = symbol_at(code, stated_address(code, lookup)?)?;
+    let symbol = symbol_at(debug, code, stated_address(code, lookup)?)?;
     Some(NamedOffset {
         name: symbol.name,
         offset: stated.saturating_sub(symbol.value),
@@ -85,7 +124,7 @@ fn function_at<'a>(file: &LoadedFile<'a>, address: u64, lookup: u64) -> Option<N
     ensures { option_map offset_view result ≡ function_at (file_seen file.now) address lookup }
 {
     match loaded_code(file) {
-        Some(code) => function_in(&code, address, lookup),
+        Some(code) => function_in(file.debug, &code, address, lookup),
         None => None,
     }
 }

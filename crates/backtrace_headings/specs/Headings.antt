@@ -7,6 +7,7 @@ use Rattle.core_files.specs.declared.signal_info.SignalInfo.{SignalInfo}
 use Rattle.core_files.specs.declared.signal_info.SignalOrigin.{SignalOrigin}
 use Rattle.core_files.specs.declared.thread.Thread.{Thread}
 use Rattle.backtrace_text.specs.Names.{shown_name}
+use Rattle.backtrace_text.specs.Threads.{Label}
 use Rattle.json_program.specs.Lines.{line}
 use Rattle.backtrace_headings.specs.Signals.{origin_text, signal_name}
 use Rattle.backtrace_headings.specs.declared.heading.EndSignal.{EndSignal}
@@ -68,3 +69,7 @@ name_by (Some process) id = if process.id == id then Some process.name else None
 abbrev pub got_signal : Option EndSignal → ℕ → Bool
 got_signal None id = false
 got_signal (Some ended) id = ended.thread == id
+
+-- what the line of a thread says
+abbrev pub label_of : Heading → ℕ → Label
+label_of heading id = record { id = id; name = name_by heading.process id; got_signal = got_signal heading.signal id }

@@ -2,11 +2,13 @@
 
 ghost use Rattle.std.specs.Prelude.{◌≡◌, option_map};
 ghost use Rattle.std.specs.Option.{option_copied};
+ghost use Rattle.backtrace_text.specs.LabelViews.{label_view};
 ghost use Rattle.core_files.specs.CoreViews.{contents_of};
 ghost use Rattle.core_files.specs.ProcessViews.{process_seen};
 ghost use Rattle.backtrace_headings.specs.HeadingViews.{heading_view};
-ghost use Rattle.backtrace_headings.specs.Headings.{got_signal, heading_of, name_by, origin_by, signal_by, signal_of};
+ghost use Rattle.backtrace_headings.specs.Headings.{got_signal, heading_of, label_of, name_by, origin_by, signal_by, signal_of};
 
+use backtrace_text::ThreadLabel;
 use core_files::{CoreFile, ProcessInfo, SignalInfo, SignalOrigin, Thread};
 
 /// The signal that ended a process.
@@ -83,19 +85,23 @@ fn name_by<'a>(process: Option<ProcessInfo<'a>>, id: u64) -> Option<&'a [u8]>
     }
 }
 
-/// The name of the thread with this id, if the core has it: that of the process, if its id is the same.
-pub fn thread_name<'a>(heading: &Heading<'a>, id: u64) -> Option<&'a [u8]>
-    ensures { option_copied result ≡ name_by (heading_view heading.now).process id }
+// Whether the thread with this id got the signal that ended the process.
+fn got_signal(signal: Option<EndSignal>, id: u64) -> bool
+    ensures { result ≡ got_signal signal id }
 {
-    name_by(heading.process, id)
-}
-
-/// Whether the thread with this id got the signal that ended the process.
-pub fn got_signal(heading: &Heading<'_>, id: u64) -> bool
-    ensures { result ≡ got_signal heading.now.signal id }
-{
-    match heading.signal {
+    match signal {
         Some(ended) => u64::from(ended.thread) == id,
         None => false,
+    }
+}
+
+/// What the line of the thread with this id says: its name is that of the process, if this has the same id, as a core says no other.
+pub fn label_of<'a>(heading: &Heading<'a>, id: u64) -> ThreadLabel<'a>
+    ensures { label_view result ≡ label_of (heading_view heading.now) id }
+{
+    ThreadLabel {
+        id,
+        name: name_by(heading.process, id),
+        got_signal: got_signal(heading.signal, id),
     }
 }

@@ -1,5 +1,5 @@
-//! What a core says of its process before its threads: its command, and why it ended; and of each thread, its name and whether it got the
-//! signal.
+//! What a core says of its process before its threads: its command, and why it ended; and what the line of each thread
+//! says.
 #![tactic(auto)]
 
 mod codes;
@@ -7,5 +7,5 @@ mod heading;
 mod signals;
 mod writing;
 
-pub use heading::{EndSignal, Heading, got_signal, heading_of, thread_name};
+pub use heading::{EndSignal, Heading, heading_of, label_of};
 pub use writing::write_heading;

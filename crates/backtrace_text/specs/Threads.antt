@@ -1,20 +1,37 @@
 -- The text of the backtraces of threads.
-use Rattle.std.specs.Prelude.{ℕ, List, ◌++◌, codes, decimal}
+use Rattle.std.specs.Prelude.{ℕ, Bool, if◌then◌else◌, List, [], ◌++◌, codes, decimal, Option, Some, None}
 use Rattle.std.specs.List.{enumerate_from, flat_map}
 use Rattle.json_program.specs.Lines.{line}
 use Rattle.backtrace_text.specs.Ends.{end_text}
 use Rattle.backtrace_text.specs.Frames.{Frame, frame_text}
+use Rattle.backtrace_text.specs.Names.{shown_name}
 use Rattle.backtrace_text.specs.declared.ends.WalkEnd.{WalkEnd}
 
--- The backtrace of a thread: the thread's number, its frames, the innermost first, and how the walk over them ended.
+-- What the line of a thread says: the number that the system has for it, its name, if that is known, and whether it got the signal that
+-- ended the process.
+pub record Label : Type 0 where
+  pub id : ℕ
+  pub name : Option (List ℕ)
+  pub got_signal : Bool
+
+-- The backtrace of a thread: its label, its frames, the innermost first, and how the walk over them ended.
 pub record Backtrace : Type 0 where
-  pub thread : ℕ
+  pub thread : Label
   pub frames : List Frame
   pub end : WalkEnd
 
+-- a name in quotation marks, if it is known
+abbrev pub name_part : Option (List ℕ) → List ℕ
+name_part None = []
+name_part (Some name) = codes " \"" ++ shown_name name ++ codes "\""
+
+-- that a thread got the signal, if it did
+unfoldable pub signal_part : Bool → List ℕ
+signal_part got_signal = if got_signal then codes ", got the signal" else []
+
 -- the line of a thread
-abbrev pub thread_line : ℕ → List ℕ
-thread_line thread = line (codes "Thread " ++ decimal thread ++ codes ":")
+abbrev pub thread_line : Label → List ℕ
+thread_line thread = line (codes "Thread " ++ decimal thread.id ++ name_part thread.name ++ signal_part thread.got_signal ++ codes ":")
 
 -- the lines of frames, which are numbered from here on
 abbrev pub frames_text : ℕ → List Frame → List ℕ

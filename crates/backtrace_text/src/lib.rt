@@ -12,4 +12,5 @@ mod writing;
 pub use ends::WalkEnd;
 pub use frames::{CodeLocation, NamedOffset, RegisterValue, ShownFrame};
 pub use names::{FunctionNames, push_name};
+pub use threads::ThreadLabel;
 pub use writing::{write_end, write_frame, write_thread};

@@ -5,23 +5,28 @@ ghost use Rattle.json_program.specs.Errors.{ReportsFailures};
 ghost use Rattle.backtrace_text.specs.Ends.{end_text};
 ghost use Rattle.backtrace_text.specs.FrameViews.{frame_view};
 ghost use Rattle.backtrace_text.specs.Frames.{frame_text};
+ghost use Rattle.backtrace_text.specs.LabelViews.{label_view};
 ghost use Rattle.backtrace_text.specs.Threads.{thread_line};
 ghost use Rattle.backtrace_text.specs.Writes.{Writes};
 
 use crate::ends::{WalkEnd, push_end};
 use crate::frames::{ShownFrame, push_frame};
-use crate::threads::push_thread;
+use crate::threads::{ThreadLabel, push_thread};
 use json_program::{RunError, Sink, write_all};
 use std::alloc::Global;
 
-/// Writes the line of a thread, by the number that the system has for it.
-pub fn write_thread<W: Sink>(alloc: Global, thread: u64, sink: &mut W) -> Result<(), RunError>
+/// Writes the line of a thread.
+pub fn write_thread<W: Sink>(
+    alloc: Global,
+    label: &ThreadLabel<'_>,
+    sink: &mut W,
+) -> Result<(), RunError>
     requires { W.has_failed sink.old ≡ false }
-    ensures text { Writes W.contents sink.old sink.new result (thread_line thread) }
+    ensures text { Writes W.contents sink.old sink.new result (thread_line (label_view label.now)) }
     ensures errors { ReportsFailures result false (W.has_failed sink.new) }
 {
     let mut text = Vec::new(alloc);
-    push_thread(alloc, &mut text, thread)?;
+    push_thread(alloc, &mut text, label)?;
     write_all(sink, text.as_slice())
 }
 

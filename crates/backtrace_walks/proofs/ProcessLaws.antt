@@ -1,6 +1,7 @@
 -- The process of a core, and the module of a mapping.
 use Rattle.std.proofs.Common.{◌≡◌, ℕ, List, [], ap, ◌∙◌}
 use Rattle.backtrace_files.specs.Files.{CodeOfFile, ProcessFile, ranges_of}
+use Rattle.backtrace_headings.specs.Headings.{Heading, heading_of}
 use Rattle.core_files.specs.CoreFiles.{CoreContents}
 use Rattle.core_files.specs.MappedFiles.{FileMapping}
 use Rattle.core_files.specs.Memory.{word_at}
@@ -10,20 +11,22 @@ use Rattle.framehop_unwinder.specs.Modules.{Loaded}
 use Rattle.backtrace_walks.specs.Backtraces.{Process, is_code_in, process_with}
 use Rattle.backtrace_walks.specs.Modules.{data_of_code, module_with, modules_of}
 
--- files and the words of ranges, as a process
-abbrev pub process_by : List ProcessFile → List KnownRange → List KnownRange → Process
-process_by files segments ranges = record {
+-- files, the words of ranges and what is said, as a process
+abbrev pub process_by : List ProcessFile → List KnownRange → List KnownRange → Heading → Process
+process_by files segments ranges heading = record {
   files = files;
   modules = modules_of files;
   words = word_at segments ranges;
   is_code = is_code_in segments files;
+  heading = heading;
 }
 
-pub same_process : (core : CoreContents) (files : List ProcessFile) (segments ranges : List KnownRange)
-    → segments ≡ core.segments → ranges ≡ ranges_of files → process_by files segments ranges ≡ process_with core files
-same_process core files segments ranges same_segments same_ranges =
-    ap (λ (ss : List KnownRange). process_by files ss ranges) same_segments
-    ∙ ap (λ (rs : List KnownRange). process_by files core.segments rs) same_ranges
+pub same_process : (core : CoreContents) (files : List ProcessFile) (segments ranges : List KnownRange) (heading : Heading)
+    → segments ≡ core.segments → ranges ≡ ranges_of files → heading ≡ heading_of core → process_by files segments ranges heading ≡ process_with core files
+same_process core files segments ranges heading same_segments same_ranges same_heading =
+    ap (λ (ss : List KnownRange). process_by files ss ranges heading) same_segments
+    ∙ ap (λ (rs : List KnownRange). process_by files core.segments rs heading) same_ranges
+    ∙ ap (λ (h : Heading). process_by files core.segments (ranges_of files) h) same_heading
 
 -- a module, by its parts
 abbrev pub module_by : List ℕ → ℕ → ℕ → ℕ → UnwindData → Loaded UnwindData

@@ -4,6 +4,7 @@ use Rattle.std.proofs.lemmas.List.{append-nil}
 use Rattle.std.specs.Prelude.{IsErr}
 use Rattle.std.specs.List.{cons_option}
 use Rattle.std.specs.Option.{option_to_list}
+use Rattle.backtrace_headings.specs.Headings.{label_of}
 use Rattle.backtrace_text.specs.Ends.{end_text}
 use Rattle.backtrace_text.specs.Threads.{Backtrace, backtrace_text, frames_text, text_of, thread_line}
 use Rattle.json_program.specs.Stream.{IsWritten, WritesText}
@@ -47,7 +48,8 @@ module _ {Rule R : Type 0} (stacks : StackMeanings Rule R) (process : Process) (
       (one_more (drop i threads) (drop (i + 1) threads) (get_or threads i d) (element threads i d within)) writes.whole
 
   -- the line of a thread, and those of its walk
-  pub begins_with : (id : ℕ) (start : ThreadStart R) → text_from stacks process options id start ≡ thread_line id ++ walk_text stacks process options start
+  pub begins_with : (id : ℕ) (start : ThreadStart R)
+      → text_from stacks process options id start ≡ thread_line (label_of process.heading id) ++ walk_text stacks process options start
   begins_with id start =
       let stack = walk_of_thread stacks process options.limit start in
-      append_assoc (thread_line id) (frames_text 0 (map (shown_frame stacks process options.frames) stack.frames)) (end_text stack.end)
+      append_assoc (thread_line (label_of process.heading id)) (frames_text 0 (map (shown_frame stacks process options.frames) stack.frames)) (end_text stack.end)

@@ -1,10 +1,11 @@
 -- The backtraces of a core's threads.
-use Rattle.std.specs.Prelude.{ℕ, ◌-◌, ◌==◌, ◌&&◌, ◌||◌, Bool, true, nat_lt, not, if◌then◌else◌, List, [], map, Option, Some, None, option_and_then, unwrap_or}
+use Rattle.std.specs.Prelude.{ℕ, ◌-◌, ◌==◌, ◌&&◌, ◌||◌, Bool, true, nat_lt, not, if◌then◌else◌, List, [], ◌++◌, map, Option, Some, None, option_and_then, unwrap_or}
 use Rattle.std.specs.List.{filter_map}
 use Rattle.std.specs.Option.{option_map}
 use Rattle.backtrace_files.specs.Files.{ProcessFile, ranges_of}
 use Rattle.backtrace_files.specs.Locations.{location_of, may_be_code_at}
-use Rattle.backtrace_files.specs.ProcessFiles.{process_files}
+use Rattle.backtrace_files.specs.ProcessFiles.{Contents, process_files}
+use Rattle.backtrace_headings.specs.Headings.{Heading, heading_of, heading_text, label_of}
 use Rattle.backtrace_text.specs.Frames as seen
 use Rattle.backtrace_text.specs.Threads.{Backtrace, text_of}
 use Rattle.core_files.specs.CoreFiles.{CoreContents}
@@ -27,12 +28,13 @@ use Rattle.backtrace_walks.specs.declared.backtraces.FrameOptions.{FrameOptions}
 use Rattle.backtrace_walks.specs.declared.calls.CallSite.{CallSite}
 use Rattle.backtrace_walks.specs.declared.registers.ThreadStart.{ThreadStart}
 
--- What a process has: its files, the modules that these are, the words of its memory, and where there is code.
+-- What a process has: its files, the modules that these are, the words of its memory, where there is code, and what its core says of it.
 pub record Process : Type 0 where
   pub files : List ProcessFile
   pub modules : List (Loaded UnwindData)
   pub words : Words
   pub is_code : ℕ → Bool
+  pub heading : Heading
 
 -- there is code at an address: it may be executed, as the core's segments say, or if none contains it, if a file may have code there
 abbrev pub is_code_in : List KnownRange → List ProcessFile → ℕ → Bool
@@ -45,6 +47,7 @@ process_with core files = record {
   modules = modules_of files;
   words = word_at core.segments (ranges_of files);
   is_code = is_code_in core.segments files;
+  heading = heading_of core;
 }
 
 -- the registers of a frame, if they are shown
@@ -73,7 +76,7 @@ shown_frame stacks process options frame = record {
 -- the frames of a walk with how it ends, as the backtrace of a thread
 abbrev pub shown_stack : {Rule Registers : Type 0} → StackMeanings Rule Registers → Process → FrameOptions → ℕ → Stack Registers → Backtrace
 shown_stack stacks process options thread stack = record {
-  thread = thread;
+  thread = label_of process.heading thread;
   frames = map (shown_frame stacks process options) stack.frames;
   end = stack.end;
 }
@@ -164,10 +167,10 @@ backtraces_on Aarch64 core files options = backtraces_by stacks_aarch64 core fil
 abbrev pub backtraces_with : CoreContents → List ProcessFile → BacktraceOptions → List Backtrace
 backtraces_with core files options = backtraces_on core.machine core files options
 
--- those of a core, where the bytes of its mapped files are given by their numbers
-abbrev pub core_backtraces : CoreContents → List (Option (List ℕ)) → BacktraceOptions → List Backtrace
+-- those of a core, where the bytes of its mapped files are given
+abbrev pub core_backtraces : CoreContents → Contents → BacktraceOptions → List Backtrace
 core_backtraces core contents options = backtraces_with core (process_files core contents) options
 
--- their text
-abbrev pub core_text : CoreContents → List (Option (List ℕ)) → BacktraceOptions → List ℕ
-core_text core contents options = text_of (core_backtraces core contents options)
+-- what a core says of its process, and the text of its backtraces
+abbrev pub core_text : CoreContents → Contents → BacktraceOptions → List ℕ
+core_text core contents options = heading_text (heading_of core) ++ text_of (core_backtraces core contents options)

@@ -1,6 +1,7 @@
 -- What contracts see of a process.
 use Rattle.std.specs.Prelude.{ℕ, List}
 use Rattle.backtrace_files.specs.FileViews.{files_seen}
+use Rattle.backtrace_headings.specs.HeadingViews.{heading_view}
 use Rattle.backtrace_text.specs.Frames.{frame_text}
 use Rattle.core_files.specs.MemoryViews.{segments_of, word_of}
 use Rattle.framehop_loads.specs.UnwindData.{UnwindData}
@@ -21,6 +22,7 @@ process_seen process = record {
   modules = modules_of (files_seen process.files.now);
   words = word_of process.memory;
   is_code = is_code_in (segments_of process.memory) (files_seen process.files.now);
+  heading = heading_view process.heading;
 }
 
 -- A session has the modules of a process.

@@ -10,6 +10,7 @@ ghost use Rattle.backtrace_walks.specs.WalkedViews.{frame_seen};
 use crate::arch::ThreadArch;
 use crate::walks::WalkedFrame;
 use backtrace_files::{LoadedFile, location_of};
+use backtrace_headings::Heading;
 use backtrace_text::{CodeLocation, FunctionNames, RegisterValue, ShownFrame};
 use core_files::Memory;
 use std::alloc::{AllocError, Global};
@@ -34,13 +35,15 @@ pub struct BacktraceOptions {
     pub frames: FrameOptions,
 }
 
-/// What a process has: its files, and its memory.
+/// What a process has: its files, its memory, and what its core says of it.
 #[derive(Clone, Copy, Debug)]
 pub struct CoreProcess<'f, 'm, 'a> {
     /// The files.
     pub files: &'f [LoadedFile<'a>],
     /// The memory.
     pub memory: Memory<'m, 'a>,
+    /// What its core says of it.
+    pub heading: Heading<'a>,
 }
 
 // The registers of a frame, if they are shown.

@@ -12,6 +12,7 @@ use crate::backtraces::{BacktraceOptions, CoreProcess, FrameOptions, shown_frame
 use crate::courses::{course_from, next_in};
 use crate::registers::ThreadStart;
 use crate::walks::{NextFrame, WalkedFrame};
+use backtrace_headings::label_of;
 use backtrace_text::{WalkEnd, write_end, write_frame, write_thread};
 use core_files::Thread;
 use framehop::Session;
@@ -81,7 +82,8 @@ fn write_stack<'a, A: ThreadArch, W: Sink>(
     ensures errors { ReportsFailures result false (W.has_failed sink.new) }
     ensures session { IsSessionOf process.now session.new }
 {
-    write_thread(alloc, id, sink)?;
+    let label = label_of(&process.heading, id);
+    write_thread(alloc, &label, sink)?;
     write_walk::<A, W>(alloc, session, process, options, start, sink)
 }
 

@@ -110,6 +110,7 @@ fn module_of(
     let file = LoadedFile {
         mapping,
         bytes: Some(bytes),
+        debug: None,
     };
     let Some(code) = loaded_code(&file) else {
         return Ok(None);

@@ -65,7 +65,12 @@ fn expect_bases(rt: &impl Abort, bytes: Option<&[u8]>, bases: &[Base]) {
             offset,
             name: b"/a",
         };
-        let found = match loaded_code(&LoadedFile { mapping, bytes }) {
+        let file = LoadedFile {
+            mapping,
+            bytes,
+            debug: None,
+        };
+        let found = match loaded_code(&file) {
             Some(code) => Some((code.base_svma, code.base_avma)),
             None => None,
         };

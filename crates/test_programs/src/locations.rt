@@ -57,7 +57,11 @@ fn mapped<'a>(start: u64, end: u64, offset: u64, bytes: Option<&'a [u8]>) -> Loa
         offset,
         name: b"/a",
     };
-    LoadedFile { mapping, bytes }
+    LoadedFile {
+        mapping,
+        bytes,
+        debug: None,
+    }
 }
 
 // Whether a place has this name and offset, or there is none.
@@ -86,6 +90,27 @@ fn expect_locations(rt: &impl Abort, files: &[LoadedFile<'_>], locations: &[Loca
     for location in locations {
         assert!(rt; is_located(files, *location), "{location:?}");
     }
+}
+
+/// The debug file has another name for `run`.
+static BY_DEBUG_FILE: [Location; 1] = [(0x7000_0310, 0x7000_030f, Some((b"ran", 8)), file!(0x310))];
+
+// Where the names of the object have the second byte of `run`.
+const NAME: usize = 0x14a;
+
+#[test]
+fn functions_by_a_debug_file(rt: HostRuntime) -> Result<(), Fail> {
+    let object = object(rt.alloc())?;
+    let mut debug = object.to_vec(rt.alloc())?;
+    if let Some(byte) = debug.get_mut(NAME) {
+        *byte = b'a';
+    }
+    let file = LoadedFile {
+        debug: Some(debug.as_slice()),
+        ..mapped(0x7000_0300, 0x7000_0348, 0x300, Some(object.as_slice()))
+    };
+    expect_locations(&rt, &[file], &BY_DEBUG_FILE);
+    Ok(())
 }
 
 #[test]

@@ -2,7 +2,7 @@
 
 use crate::object::{object, other_object};
 use crate::small_core::{SHARED_OBJECT, core_with};
-use backtrace_files::{LoadedFile, memory_ranges, process_files};
+use backtrace_files::{FileContents, LoadedFile, memory_ranges, process_files};
 use core_files::{CoreFile, MappedFile};
 use std::alloc::Global;
 use std::process::Abort;
@@ -39,7 +39,11 @@ fn expect_files(
     first: Option<&[u8]>,
     second: Option<&[u8]>,
 ) -> Result<(), Fail> {
-    let files = process_files(alloc, core, contents)?;
+    let contents = FileContents {
+        files: contents,
+        debug: &[],
+    };
+    let files = process_files(alloc, core, &contents)?;
     let [one, two, three, object] = files.as_slice() else {
         assert!(rt; false);
         return Ok(());
@@ -74,6 +78,32 @@ fn bytes_with_another_build_id_are_left_out(rt: HostRuntime) -> Result<(), Fail>
     expect_files(&rt, rt.alloc(), &core, &[whole, whole], None, None)
 }
 
+// Whether the first file of a core has a debug file, if these are given.
+fn has_debug_file(
+    alloc: Global,
+    core: &CoreFile<'_>,
+    files: &[Option<&[u8]>],
+    debug: &[Option<&[u8]>],
+) -> Result<bool, Fail> {
+    let contents = FileContents { files, debug };
+    let files = process_files(alloc, core, &contents)?;
+    Ok(files.iter().take(1).any(|file| file.debug.is_some()))
+}
+
+#[test]
+fn debug_files_have_the_build_id_of_their_file(rt: HostRuntime) -> Result<(), Fail> {
+    let alloc = rt.alloc();
+    let file = object(alloc)?;
+    let other = other_object(alloc)?;
+    let bytes = core_with(alloc, &file)?;
+    let core = CoreFile::parse(alloc, &bytes)?;
+    let whole = [Some(file.as_slice())];
+    assert!(rt; has_debug_file(alloc, &core, &whole, &whole)?);
+    assert!(rt; !has_debug_file(alloc, &core, &whole, &[Some(other.as_slice())])?);
+    assert!(rt; !has_debug_file(alloc, &core, &[None], &whole)?);
+    Ok(())
+}
+
 #[test]
 fn ranges_of_files_with_bytes(rt: HostRuntime) -> Result<(), Fail> {
     let mapping = MappedFile {
@@ -86,10 +116,12 @@ fn ranges_of_files_with_bytes(rt: HostRuntime) -> Result<(), Fail> {
         LoadedFile {
             mapping,
             bytes: None,
+            debug: None,
         },
         LoadedFile {
             mapping,
             bytes: Some(b"0123456789"),
+            debug: None,
         },
     ];
     let ranges = memory_ranges(rt.alloc(), &files)?;

@@ -1,8 +1,8 @@
 ghost use Rattle.std.specs.Prelude.{◌≡◌, false};
 
 use backtrace_text::{
-    CodeLocation, FunctionNames, NamedOffset, RegisterValue, ShownFrame, WalkEnd, push_name,
-    write_end, write_frame, write_thread,
+    CodeLocation, FunctionNames, NamedOffset, RegisterValue, ShownFrame, ThreadLabel, WalkEnd,
+    push_name, write_end, write_frame, write_thread,
 };
 use framehop_registers::Error;
 use json_program::{RunError, Sink, Streamed};
@@ -10,8 +10,9 @@ use std::alloc::{AllocError, Global};
 use std::test::Fail;
 
 // The text of two threads, as gdb lays frames out: numbers in two columns, 16 digits of an address, `??` for a
-// function that isn't known, and its line for a signal's frame. The name of the first function is as c++filt writes it.
-const EXPECTED: &str = "Thread 4711:
+// function that isn't known, and its line for a signal's frame. The name of the first function is as c++filt writes it, and that of the
+// first thread has a byte that isn't printable.
+const EXPECTED: &str = "Thread 4711 \"ser\\x1bver\", got the signal:
 #0  0x00007f2b6c0a9a7c in Server::run(int) const+0x12c from /lib/libc.so.6+0x969fc
     rip 0x00007f2b6c0a9a7c rsp 0x00007ffd00000010
 #1  <signal handler called>
@@ -87,14 +88,24 @@ fn interrupted(alloc: Global) -> Result<Vec<ShownFrame<'static>>, AllocError> {
 fn write_threads<W: Sink>(alloc: Global, sink: &mut W) -> Result<(), RunError>
     requires { W.has_failed sink.old ≡ false }
 {
-    write_thread(alloc, 4711, sink)?;
+    let first = ThreadLabel {
+        id: 4711,
+        name: Some(b"ser\x1bver"),
+        got_signal: true,
+    };
+    write_thread(alloc, &first, sink)?;
     let frames = interrupted(alloc)?;
     for (number, frame) in frames.iter().enumerate() {
         write_frame(alloc, number as u64, frame, sink)?;
     }
     let end = WalkEnd::Stopped(Error::CouldNotReadStack(0x7ffd00001000));
     write_end(alloc, end, sink)?;
-    write_thread(alloc, 12, sink)?;
+    let second = ThreadLabel {
+        id: 12,
+        name: None,
+        got_signal: false,
+    };
+    write_thread(alloc, &second, sink)?;
     write_end(alloc, WalkEnd::EndOfStack, sink)
 }
 

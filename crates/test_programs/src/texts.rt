@@ -2,6 +2,7 @@
 
 use crate::cores::core_x86_64;
 use crate::program::program;
+use backtrace_files::FileContents;
 use backtrace_text::FunctionNames;
 use backtrace_walks::{BacktraceOptions, FrameOptions, write_stacks};
 use core_files::CoreFile;
@@ -68,7 +69,11 @@ fn expect(
     let bytes = core_x86_64(alloc)?;
     let core = CoreFile::parse(alloc, &bytes)?;
     let mut sink = Streamed::new(Vec::new(alloc));
-    write_stacks(alloc, &core, contents, options, &mut sink)?;
+    let contents = FileContents {
+        files: contents,
+        debug: &[],
+    };
+    write_stacks(alloc, &core, &contents, options, &mut sink)?;
     assert!(rt; sink.into_inner().as_slice() == expected.as_bytes());
     Ok(())
 }

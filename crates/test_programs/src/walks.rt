@@ -33,6 +33,7 @@ fn mapped<'a>(bytes: &'a [u8]) -> LoadedFile<'a> {
             name: b"/program",
         },
         bytes: Some(bytes),
+        debug: None,
     }
 }
 

@@ -20,3 +20,6 @@ returns-clause-text g c =
 
 pub returns-in_err-session-clause-text : goal.returns-in_err-session-clause-text
 returns-in_err-session-clause-text g c = writes_nothing c.from_residual-in_err-session.result _ _ c.from_residual-in_err-session.ensures.0
+
+pub returns-in_err-ranges-clause-text : goal.returns-in_err-ranges-clause-text
+returns-in_err-ranges-clause-text g c = writes_nothing c.from_residual.result _ _ c.from_residual.ensures.0
