@@ -122,6 +122,12 @@ def file_of(events, records, machine=b"x86_64", build_ids=b""):
     return head + ids + entries + records + table + b"".join(features.values())
 
 
+def killed(data):
+    """What stays of a file if its `perf record` is killed: the header says no size of the records, and no features follow them."""
+    at, size = struct.unpack_from("<QQ", data, 40)
+    return data[:48] + word(0) + data[56 : at + size]
+
+
 def pipe_of(events, records):
     """What a pipe has: attributes as records, and then the others."""
     return perf.MAGIC + word(16) + b"".join(record(64, data + word(*known)) for data, known in events) + records
@@ -180,6 +186,7 @@ def recordings():
         yield name, file_of(one, b"".join(parts), machine, ids)
         yield f"{name} out of order", file_of(one, b"".join(parts[::-1]), machine)
         yield f"{name} by a pipe", pipe_of(one, b"".join(parts))
+        yield f"{name} of a killed perf", killed(file_of(one, b"".join(parts), machine, ids))
     short = history(KINDS, perf.SAMPLE_ID_ALL, 5, rand, 0x1C0, copied=8, room=8)
     few = b"".join([short[0], short[1], short[4], short[5], short[10], short[16], short[20]])
     one = [(attributes(KINDS, mask=0x1C0), [5])]

@@ -5,16 +5,16 @@ ghost use Rattle.std.specs.Option.{option_copied};
 ghost use Rattle.fold.specs.Files.{is_machine, is_other};
 
 use crate::recording::NamedBuildId;
+use backtrace_text::push_name;
 use elf_files::{ElfFile, Machine, SectionKind};
 use fold_stacks::{RecordedFiles, SampledFiles};
 use function_index::has_symbol_table;
 use perf_files::Architecture;
 use process_modules::FileBytes;
+use regular_files::{build_id_path, elf_bytes};
 use std::alloc::{AllocError, Global};
 use std::collections::HashMap;
-use std::fs::File;
-use std::os::unix::fs::FileExt;
-use std::{env, fs, io, str};
+use std::{env, fs, str};
 
 /// Where files are looked for.
 #[derive(Debug, Drop)]
@@ -76,29 +76,6 @@ pub(crate) fn folders_of(
     })
 }
 
-// So many bytes of a file from its start on, in as much memory.
-fn first_bytes(rt: &HostRuntime, file: &File, size: u64) -> io::Result<Vec<u8>> {
-    let mut bytes = Vec::new(rt.alloc());
-    bytes.resize(size as usize, 0)?;
-    file.read_exact_at(&mut bytes, 0)?;
-    Ok(bytes)
-}
-
-// The bytes of a regular file that begins as ELF files do. Any other isn't read, and a device isn't opened.
-fn read_regular(rt: &HostRuntime, path: &str) -> io::Result<Vec<u8>> {
-    let metadata = fs::metadata(rt, path)?;
-    if !metadata.is_file() {
-        return Err(io::Error::from(io::ErrorKind::InvalidInput));
-    }
-    let file = File::open(rt, path)?;
-    let size = metadata.len();
-    let start = first_bytes(rt, &file, size.min(4))?;
-    if start.as_slice() != b"\x7fELF".as_slice() {
-        return Err(io::Error::from(io::ErrorKind::InvalidInput));
-    }
-    first_bytes(rt, &file, size)
-}
-
 // Whether a file has code, and not only what debuggers read.
 fn has_code(elf: &ElfFile<'_>) -> bool {
     match elf.section_named(b".text") {
@@ -133,25 +110,6 @@ fn build_id_of<'a>(elf: &ElfFile<'a>) -> Option<&'a [u8]> {
         Ok(id) => id,
         Err(_) => None,
     }
-}
-
-// The path of a file below a folder by its build id, whose first byte is the name of a folder.
-fn id_path(
-    alloc: Global,
-    folder: &str,
-    build_id: &[u8],
-    ending: &str,
-) -> Result<String, AllocError> {
-    let mut path = format!(in alloc; "{folder}/")?;
-    for (index, byte) in build_id.iter().enumerate() {
-        let digits = format!(in alloc; "{byte:02x}")?;
-        path.push_str(digits.as_str())?;
-        if index == 0 {
-            path.push_str("/")?;
-        }
-    }
-    path.push_str(ending)?;
-    Ok(path)
 }
 
 // What a file has, if it is the one that was recorded.
@@ -192,6 +150,16 @@ impl FoundFile {
     }
 }
 
+// Says something of a file on standard error, if that can be written.
+fn say_of_file(rt: &HostRuntime, name: &[u8], what: &str) -> Result<(), AllocError> {
+    let mut shown = Vec::new(rt.alloc());
+    push_name(rt.alloc(), &mut shown, name)?;
+    if let Ok(shown) = str::from_utf8(shown.as_slice()) {
+        let _ = eprintln!(rt; "fold: {shown}: {what}");
+    }
+    Ok(())
+}
+
 impl<'r> FoundFiles<'r> {
     /// No files yet, of a recording with these build ids.
     pub(crate) fn new(
@@ -226,8 +194,8 @@ impl<'r> FoundFiles<'r> {
         let alloc = self.rt.alloc();
         for folder in &self.folders.by_build_id {
             for ending in ["", ".debug", "/elf", "/vdso"] {
-                let path = id_path(alloc, folder.as_str(), build_id, ending)?;
-                if let Ok(bytes) = read_regular(self.rt, path.as_str()) {
+                let path = build_id_path(alloc, folder.as_str(), build_id, ending)?;
+                if let Ok(Some(bytes)) = elf_bytes(self.rt, path.as_str()) {
                     found.take(bytes, self.machine, build_id);
                 }
             }
@@ -238,7 +206,7 @@ impl<'r> FoundFiles<'r> {
     // The list of the symbols of a kernel with a build id.
     fn find_kernel_list(&self, build_id: &[u8]) -> Result<Option<&'static [u8]>, AllocError> {
         for folder in &self.folders.by_build_id {
-            let path = id_path(self.rt.alloc(), folder.as_str(), build_id, "/kallsyms")?;
+            let path = build_id_path(self.rt.alloc(), folder.as_str(), build_id, "/kallsyms")?;
             if let Ok(list) = fs::read(self.rt, path.as_str()) {
                 return Ok(Some(list.leak()));
             }
@@ -258,7 +226,7 @@ impl<'r> FoundFiles<'r> {
         };
         let root = &self.folders.root;
         let path = format!(in self.rt.alloc(); "{root}{name}")?;
-        if let Ok(bytes) = read_regular(self.rt, path.as_str()) {
+        if let Ok(Some(bytes)) = elf_bytes(self.rt, path.as_str()) {
             found.take(bytes, self.machine, build_id);
         }
         Ok(())
@@ -286,20 +254,19 @@ impl<'r> FoundFiles<'r> {
     }
 
     // Says of a file that it is missing, if it is one.
-    fn say_if_missing(&mut self, file: u32, found: FoundFile) {
-        let rt = self.rt;
+    fn say_if_missing(&mut self, file: u32, found: FoundFile) -> Result<(), AllocError> {
         let name = self.name_of(file);
         if found.code.is_some() || !name.starts_with(b"/") || name.starts_with(b"//") {
-            return;
+            return Ok(());
         }
         let why = if found.has_other {
             "another file than the recorded one"
         } else {
             "not found"
         };
-        let name = str::from_utf8(name).unwrap_or("?");
-        let _ = eprintln!(rt; "fold: {name}: {why}");
+        say_of_file(self.rt, name, why)?;
         self.missing = self.missing.saturating_add(1);
+        Ok(())
     }
 
     // What was found of a file, which is looked for once.
@@ -309,7 +276,7 @@ impl<'r> FoundFiles<'r> {
         }
         let found = self.find(file)?;
         self.found.insert(file, found)?;
-        self.say_if_missing(file, found);
+        self.say_if_missing(file, found)?;
         Ok(found)
     }
 }

@@ -222,13 +222,17 @@ impl Recording {
         Ok(Ok(()))
     }
 
-    // Takes the features of a file that are known.
+    // Takes the features of a file that are known, as far as they are there: they are written last, together with the size of the
+    // records, so that a recording whose `perf record` was killed has none.
     fn take_features(
         &mut self,
         alloc: Global,
         source: &mut Source,
         header: &FileHeader,
     ) -> Result<Result<(), Refusal>> {
+        if header.data.size == 0 {
+            return Ok(Ok(()));
+        }
         let Some(place) = header.feature_table() else {
             return Ok(Ok(()));
         };
@@ -238,6 +242,9 @@ impl Recording {
                 continue;
             };
             let feature = source.bytes(place.offset, place.size, 0)?;
+            if (feature.len() as u64) < place.size {
+                continue;
+            }
             if let Err(refusal) = self.take_feature(alloc, number, feature)? {
                 return Ok(Err(refusal));
             }

@@ -13,7 +13,10 @@ pub(crate) struct Source {
     size: u64,
     // Where the part begins.
     start: u64,
-    part: Vec<u8>,
+    // The part, and what is left of the largest one before, so that no byte is made twice.
+    room: Vec<u8>,
+    // How many bytes the part has.
+    known: usize,
 }
 
 impl Source {
@@ -21,21 +24,23 @@ impl Source {
     pub(crate) fn open(rt: &HostRuntime, path: &str) -> Result<Self> {
         let metadata = fs::metadata(rt, path)?;
         let mut file = File::open(rt, path)?;
-        let mut part = Vec::new(rt.alloc());
+        let mut room = Vec::new(rt.alloc());
         if metadata.is_file() {
             return Ok(Source {
                 file: Some(file),
                 size: metadata.len(),
                 start: 0,
-                part,
+                room,
+                known: 0,
             });
         }
-        file.read_to_end(&mut part)?;
+        let known = file.read_to_end(&mut room)?;
         Ok(Source {
             file: None,
-            size: part.len() as u64,
+            size: known as u64,
             start: 0,
-            part,
+            room,
+            known,
         })
     }
 
@@ -47,7 +52,7 @@ impl Source {
     // Whether the part in memory has so many bytes from an offset on.
     fn has(&self, offset: u64, size: u64) -> bool {
         match offset.checked_sub(self.start) {
-            Some(at) => at.saturating_add(size) <= self.part.len() as u64,
+            Some(at) => at.saturating_add(size) <= self.known as u64,
             None => false,
         }
     }
@@ -55,9 +60,14 @@ impl Source {
     // Reads the part with so many bytes from an offset on.
     fn read(&mut self, offset: u64, size: u64) -> io::Result<()> {
         if let Some(file) = &self.file {
+            let size = size as usize;
+            self.known = 0;
+            if self.room.len() < size {
+                self.room.resize(size, 0)?;
+            }
+            file.read_exact_at(&mut self.room[..size], offset)?;
             self.start = offset;
-            self.part.resize(size as usize, 0)?;
-            file.read_exact_at(&mut self.part, offset)?;
+            self.known = size;
         }
         Ok(())
     }
@@ -69,10 +79,9 @@ impl Source {
         if !self.has(offset, size) {
             self.read(offset, ahead.max(size).min(left))?;
         }
-        let start = offset
-            .saturating_sub(self.start)
-            .min(self.part.len() as u64) as usize;
-        let rest = &self.part[start..];
+        let part = &self.room[..self.known.min(self.room.len())];
+        let start = offset.saturating_sub(self.start).min(part.len() as u64) as usize;
+        let rest = &part[start..];
         let size = size.min(rest.len() as u64) as usize;
         Ok(&rest[..size])
     }

@@ -1,7 +1,7 @@
 //! The functions of a file by their addresses.
 
-use crate::entries::{ENTRY_SIZE, FunctionEntry, function_at};
-use crate::tables::symbols_of;
+use crate::entries::{ENTRY_SIZE, FunctionEntry, function_at, preference};
+use crate::tables::{SymbolBytes, symbols_of};
 use elf_files::ElfFile;
 use std::alloc::{AllocError, Global};
 
@@ -11,6 +11,8 @@ struct IndexedFunction {
     entry: FunctionEntry,
     // The greatest of the last addresses of this function and of those before it.
     reach: u64,
+    // How much it is preferred to those that begin where it does.
+    preference: u64,
 }
 
 /// The functions of a file, by their first addresses.
@@ -20,14 +22,33 @@ pub struct FunctionIndex<'a> {
     strings: &'a [u8],
 }
 
+// The name at an offset of strings.
+fn name_in(strings: &[u8], offset: u32) -> Option<&[u8]> {
+    let start = (offset as usize).min(strings.len());
+    before_zero(&strings[start..])
+}
+
+// A function of a file with these strings.
+fn indexed(entry: FunctionEntry, strings: &[u8]) -> IndexedFunction {
+    let name = name_in(strings, entry.name_offset).unwrap_or(&[]);
+    IndexedFunction {
+        entry,
+        reach: 0,
+        preference: preference(entry.binding, name),
+    }
+}
+
 // The functions of a table, its last first.
-fn functions_of(alloc: Global, table: &[u8]) -> Result<Vec<IndexedFunction>, AllocError> {
+fn functions_of(
+    alloc: Global,
+    symbols: &SymbolBytes<'_>,
+) -> Result<Vec<IndexedFunction>, AllocError> {
     let mut functions = Vec::new(alloc);
-    let mut left = table.len() / ENTRY_SIZE;
+    let mut left = symbols.table.len() / ENTRY_SIZE;
     'entries: while left > 0 {
         left -= 1;
-        if let Some(entry) = function_at(table, ENTRY_SIZE * left) {
-            functions.push(IndexedFunction { entry, reach: 0 })?;
+        if let Some(entry) = function_at(symbols.table, ENTRY_SIZE * left) {
+            functions.push(indexed(entry, symbols.strings))?;
         }
     }
     Ok(functions)
@@ -62,19 +83,13 @@ impl<'a> FunctionIndex<'a> {
         let Some(symbols) = symbols_of(file) else {
             return Ok(FunctionIndex::empty(alloc));
         };
-        let mut functions = functions_of(alloc, symbols.table)?;
-        functions.sort_by_key(|function| function.entry.first)?;
+        let mut functions = functions_of(alloc, &symbols)?;
+        functions.sort_by_key(|function| (function.entry.first, function.preference))?;
         set_reach(&mut functions);
         Ok(FunctionIndex {
             functions,
             strings: symbols.strings,
         })
-    }
-
-    // The name at an offset of the strings.
-    fn name_of(&self, offset: u32) -> Option<&'a [u8]> {
-        let start = (offset as usize).min(self.strings.len());
-        before_zero(&self.strings[start..])
     }
 
     // The function at an address.
@@ -95,11 +110,11 @@ impl<'a> FunctionIndex<'a> {
         None
     }
 
-    /// The name of the function at an address of the file: of those that contain it one that begins last, the first of these in the
-    /// table. None if there is none, or if its name can't be read.
+    /// The name of the function at an address of the file: of those that contain it one that begins last, of these the one that is
+    /// preferred, and of these the first in the table. None if there is none, or if its name can't be read.
     pub fn name_at(&self, address: u64) -> Option<&'a [u8]> {
         match self.function_at(address) {
-            Some(function) => self.name_of(function.name_offset),
+            Some(function) => name_in(self.strings, function.name_offset),
             None => None,
         }
     }
