@@ -5,7 +5,6 @@ use framehop_rules::x86_64::{
 };
 use framehop_rules::{Error, UnwindRule};
 use std::alloc::{AllocError, Global};
-use std::test::Fail;
 
 const LAST: u64 = u64::MAX - 7;
 
@@ -92,10 +91,9 @@ fn numbered_of_all_lengths(alloc: Global) -> Result<Option<u32>, AllocError> {
 }
 
 #[test]
-fn numbers_every_list(rt: HostRuntime) -> Result<(), Fail> {
-    let numbered = numbered_of_all_lengths(rt.alloc())?;
+fn numbers_every_list(rt: HostRuntime) {
+    let numbered = numbered_of_all_lengths(rt.alloc()).expect(&rt, "memory");
     assert!(rt; numbered == Some(109601));
-    Ok(())
 }
 
 /// Lists with their lengths and numbers, and lists that have none.
@@ -345,8 +343,7 @@ fn has_rules_for_sequences(rt: HostRuntime) {
 }
 
 #[test]
-fn prints_lists(rt: HostRuntime) -> Result<(), Fail> {
-    let decoded = decode(2, 55);
-    assert!(rt; format!(in rt.alloc(); "{decoded:?}")?.as_str() == "[R15, RBX]");
-    Ok(())
+fn prints_lists(rt: HostRuntime) {
+    let text = format!(in rt.alloc(); "{:?}", decode(2, 55)).expect(&rt, "memory");
+    assert!(rt; text.as_str() == "[R15, RBX]");
 }

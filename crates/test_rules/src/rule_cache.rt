@@ -7,7 +7,6 @@ use framehop_rules::x86_64::UnwindRuleX86_64;
 use framehop_rules::{CacheResult, CacheStats, RuleCache, SlotCount, UnwindRule};
 use std::alloc::{AllocError, Global};
 use std::process::Abort;
-use std::test::Fail;
 
 /// An address, whether a frame there is a first one, and the generation of the modules.
 type Key = (u64, bool, u64);
@@ -135,20 +134,21 @@ fn rule(number: u16) -> UnwindRuleX86_64
     }
 }
 
-/// A cache makes one allocation, and no call makes more. If it fails, as `scripts/refuse-allocations` has
-/// it fail, there is no cache, and the next try makes one.
-fn cache_of<R: UnwindRule>(alloc: Global) -> Result<RuleCache<R>, AllocError> {
-    match RuleCache::new(alloc) {
-        Ok(cache) => Ok(cache),
-        Err(_) => RuleCache::new(alloc),
-    }
-}
-
-/// A cache of so many slots. Likewise.
-fn cache_with<R: UnwindRule>(alloc: Global, slots: SlotCount) -> Result<RuleCache<R>, AllocError> {
-    match RuleCache::with_slots(alloc, slots) {
-        Ok(cache) => Ok(cache),
-        Err(_) => RuleCache::with_slots(alloc, slots),
+/// A cache of so many slots, or of as many as the original's. It makes one allocation, and no call makes more. If that fails, as
+/// `scripts/refuse-allocations` has it fail, there is no cache, and the next try makes one.
+fn cache_of<R: UnwindRule>(
+    alloc: Global,
+    slots: Option<SlotCount>,
+) -> Result<RuleCache<R>, AllocError> {
+    match slots {
+        Some(slots) => match RuleCache::with_slots(alloc, slots) {
+            Ok(cache) => Ok(cache),
+            Err(_) => RuleCache::with_slots(alloc, slots),
+        },
+        None => match RuleCache::new(alloc) {
+            Ok(cache) => Ok(cache),
+            Err(_) => RuleCache::new(alloc),
+        },
     }
 }
 
@@ -191,74 +191,53 @@ fn check(rt: &impl Abort, cache: &mut RuleCache<UnwindRuleX86_64>, look_up: Look
     );
 }
 
-#[test]
-fn finds_what_was_kept_last(rt: HostRuntime) -> Result<(), Fail> {
-    let mut cache = cache_of(rt.alloc())?;
-    assert!(rt; cache.stats() == counts!(0, 0, 0, 0));
-    for look_up in &LOOK_UPS {
-        check(&rt, &mut cache, *look_up);
-    }
-    let mut cache = cache_of(rt.alloc())?;
-    for look_up in &AGAIN {
-        check(&rt, &mut cache, *look_up);
-    }
-    Ok(())
-}
-
 /// Of a pair the older rule falls out.
 #[test]
-fn finds_what_pairs_kept_last(rt: HostRuntime) -> Result<(), Fail> {
-    let slots = SlotCount::new(4).unwrap_or(SlotCount::original());
-    let mut cache = cache_with(rt.alloc(), slots)?;
-    for look_up in PAIRS {
-        check(&rt, &mut cache, look_up);
+fn finds_what_was_kept_last(rt: HostRuntime) {
+    for (slots, look_ups) in [
+        (None, LOOK_UPS.as_slice()),
+        (None, AGAIN.as_slice()),
+        (SlotCount::new(4), PAIRS.as_slice()),
+    ] {
+        let mut cache = cache_of(rt.alloc(), slots).expect(&rt, "memory");
+        assert!(rt; cache.stats() == counts!(0, 0, 0, 0));
+        for look_up in look_ups {
+            check(&rt, &mut cache, *look_up);
+        }
     }
-    Ok(())
 }
 
 #[test]
 fn counts_of_slots_are_checked(rt: HostRuntime) {
     for (slots, is_count) in SLOT_COUNTS {
-        let given = SlotCount::new(slots).map(|count| count.get());
+        let given = match SlotCount::new(slots) {
+            Some(count) => Some(count.get()),
+            None => None,
+        };
         assert!(rt; given == is_count.then_some(slots), "{slots}: {given:?}");
     }
 }
 
-/// Each pair keeps two rules.
+/// Each slot keeps its own rule: of 509, and of pairs two rules each.
 #[test]
-fn keeps_a_rule_in_each_of_16384_slots(rt: HostRuntime) -> Result<(), Fail> {
-    let slots = SlotCount::new(16384).unwrap_or(SlotCount::original());
-    let mut cache = cache_with(rt.alloc(), slots)?;
-    for is_kept in [false, true] {
-        for number in 0..16384u16 {
-            let rule = UnwindRuleAarch64::OffsetSp {
-                sp_offset_by_16: number,
-            };
-            let key = (0x100003 + u64::from(number) * 4, false, 7);
-            let found = find_or_keep(&mut cache, key, Some(rule));
-            assert!(rt; found == is_kept.then_some(rule), "{number}");
+fn keeps_a_rule_in_each_slot(rt: HostRuntime) {
+    for (count, first, distance) in [(509u16, 0x100000u64, 1u64), (16384, 0x100003, 4)] {
+        let slots = SlotCount::new(usize::from(count));
+        let mut cache = cache_of(rt.alloc(), slots).expect(&rt, "memory");
+        for is_kept in [false, true] {
+            for number in 0..count {
+                let rule = UnwindRuleAarch64::OffsetSp {
+                    sp_offset_by_16: number,
+                };
+                let place = distance.wrapping_mul(u64::from(number));
+                let key = (first.wrapping_add(place), false, 7);
+                let found = find_or_keep(&mut cache, key, Some(rule));
+                assert!(rt; found == is_kept.then_some(rule), "{number}");
+            }
         }
+        let all = u64::from(count);
+        assert!(rt; cache.stats() == counts!(all, all, 0, 0));
     }
-    assert!(rt; cache.stats() == counts!(16384, 16384, 0, 0));
-    Ok(())
-}
-
-/// Each slot keeps its own rule.
-#[test]
-fn keeps_509_rules(rt: HostRuntime) -> Result<(), Fail> {
-    let mut cache = cache_of(rt.alloc())?;
-    for is_kept in [false, true] {
-        for number in 0..509u16 {
-            let rule = UnwindRuleAarch64::OffsetSp {
-                sp_offset_by_16: number,
-            };
-            let key = (0x100000 + u64::from(number), false, 7);
-            let found = find_or_keep(&mut cache, key, Some(rule));
-            assert!(rt; found == is_kept.then_some(rule), "{number}");
-        }
-    }
-    assert!(rt; cache.stats() == counts!(509, 509, 0, 0));
-    Ok(())
 }
 
 /// Counts, with all misses and all look-ups.
@@ -272,16 +251,16 @@ static SUMS: [(CacheStats, u64, u64); 6] = [
 ];
 
 #[test]
-fn counts_up_to_the_greatest_number(rt: HostRuntime) -> Result<(), Fail> {
+fn counts_up_to_the_greatest_number(rt: HostRuntime) {
     let none = CacheStats::new();
     assert!(rt; none == CacheStats::default());
     for &(stats, misses, total) in &SUMS {
-        assert!(rt; stats.hits() == stats.hit_count && stats.misses() == misses);
-        assert!(rt; stats.total() == total);
+        let given = (stats.hits(), stats.misses(), stats.total());
+        assert!(rt; given == (stats.hit_count, misses, total));
     }
+    let text = format!(in rt.alloc(); "{none:?}").expect(&rt, "memory");
     assert!(rt;
-        format!(in rt.alloc(); "{none:?}")?.as_str()
+        text.as_str()
             == "CacheStats { hit_count: 0, miss_empty_slot_count: 0, miss_wrong_modules_count: 0, miss_wrong_address_count: 0 }"
     );
-    Ok(())
 }

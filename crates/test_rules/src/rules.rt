@@ -3,7 +3,6 @@ use crate::worked::word_at;
 use framehop_rules::x86_64::{Reg, UnwindRegsX86_64, UnwindRuleX86_64};
 use framehop_rules::{Error, FrameAddress, HexNum, UnwindRule};
 use std::process::Abort;
-use std::test::Fail;
 
 /// The registers ip, sp and bp.
 type Registers = (u64, u64, u64);
@@ -96,22 +95,6 @@ static CALLERS: [(UnwindRuleX86_64, bool, Registers, Registers); 11] = [
     (raised!(0), true, (1, 0x18, 2), (0x100300, 0x18, 2)),
     (raised!(0), true, (0x100200, 0x18, 2), (0x100300, 0x18, 2)),
 ];
-
-/// The first four are a walk, of which the last frame is the third.
-#[test]
-fn answers_callers(rt: HostRuntime) {
-    for &(rule, is_first_frame, before, after) in &CALLERS {
-        assert_step(
-            &rt,
-            rule,
-            is_first_frame,
-            0,
-            before,
-            Ok(Some(after.0)),
-            after,
-        );
-    }
-}
 
 static REFUSALS: [(
     UnwindRuleX86_64,
@@ -240,30 +223,21 @@ static REFUSALS: [(
     ),
 ];
 
-/// If there is no caller the registers stay.
+/// The first four callers are a walk, of which the last frame is the third. If there is no caller the registers stay. Below the stack
+/// pointer of a first frame an unreadable word leaves RBP in its register.
 #[test]
-fn ends_and_refuses(rt: HostRuntime) {
-    for &(rule, is_first_frame, before, answer) in &REFUSALS {
-        assert_step(&rt, rule, is_first_frame, 0, before, answer, before);
+fn steps_by_rules(rt: HostRuntime) {
+    for &(rule, is_first, before, after) in &CALLERS {
+        assert_step(&rt, rule, is_first, 0, before, Ok(Some(after.0)), after);
     }
-}
-
-/// Below the stack pointer of a first frame an unreadable word leaves RBP in its register.
-#[test]
-fn reads_below_the_stack_pointer(rt: HostRuntime) {
-    for (is_first_frame, answer, after) in [
+    for &(rule, is_first, before, answer) in &REFUSALS {
+        assert_step(&rt, rule, is_first, 0, before, answer, before);
+    }
+    for (is_first, answer, after) in [
         (true, Ok(Some(0x100300)), (0x100300, 0x18, 0x20)),
         (false, Err(Error::CouldNotReadStack(0x8)), START),
     ] {
-        assert_step(
-            &rt,
-            restored!(1, -1),
-            is_first_frame,
-            0x10,
-            START,
-            answer,
-            after,
-        );
+        assert_step(&rt, restored!(1, -1), is_first, 0x10, START, answer, after);
     }
 }
 
@@ -335,17 +309,16 @@ static TEXTS: [(Error, &str); 6] = [
 ];
 
 #[test]
-fn prints(rt: HostRuntime) -> Result<(), Fail> {
+fn prints(rt: HostRuntime) {
     for &(error, text) in &TEXTS {
-        assert!(rt; format!(in rt.alloc(); "{error}")?.as_str() == text);
+        assert!(rt; error.to_string(rt.alloc()).expect(&rt, "memory").as_str() == text);
     }
-    assert!(rt; format!(in rt.alloc(); "{:?}", HexNum(0xab12u64))?.as_str() == "ab12");
     let mut regs = UnwindRegsX86_64::new(0x1000, 0x20, 0x30);
     regs.set(Reg::RAX, 0xa);
     regs.set(Reg::R15, 0xf);
+    let text = format!(in rt.alloc(); "{:?} {regs:?}", HexNum(0xab12u64)).expect(&rt, "memory");
     assert!(rt;
-        format!(in rt.alloc(); "{regs:?}")?.as_str()
-            == "UnwindRegsX86_64 { ip: 1000, rax: a, rdx: 0, rcx: 0, rbx: 0, rsi: 0, rdi: 0, rbp: 30, rsp: 20, r8: 0, r9: 0, r10: 0, r11: 0, r12: 0, r13: 0, r14: 0, r15: f }"
+        text.as_str()
+            == "ab12 UnwindRegsX86_64 { ip: 1000, rax: a, rdx: 0, rcx: 0, rbx: 0, rsi: 0, rdi: 0, rbp: 30, rsp: 20, r8: 0, r9: 0, r10: 0, r11: 0, r12: 0, r13: 0, r14: 0, r15: f }"
     );
-    Ok(())
 }

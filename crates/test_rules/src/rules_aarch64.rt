@@ -3,7 +3,6 @@ use crate::worked::word_at;
 use framehop_rules::aarch64::{PtrAuthMask, UnwindRegsAarch64, UnwindRuleAarch64};
 use framehop_rules::{Error, UnwindRule};
 use std::process::Abort;
-use std::test::Fail;
 
 /// The registers lr, sp and fp.
 type Registers = (u64, u64, u64);
@@ -131,14 +130,6 @@ static CALLERS: [(UnwindRuleAarch64, bool, Registers, Registers); 19] = [
     ),
 ];
 
-/// The first four are a walk, of which the last has no caller.
-#[test]
-fn answers_callers(rt: HostRuntime) {
-    for &(rule, is_first_frame, before, after) in &CALLERS {
-        assert_step(&rt, rule, is_first_frame, before, Ok(Some(after.0)), after);
-    }
-}
-
 static ENDS: [(UnwindRuleAarch64, bool, Registers); 7] = [
     (FP, false, (0x100100, 0x50, 0x70)),
     (FP, false, (0x100100, 0x1000, 0x70)),
@@ -148,14 +139,6 @@ static ENDS: [(UnwindRuleAarch64, bool, Registers); 7] = [
     (NO_OP, true, (0, 0x10, 0x20)),
     (with_lr!(0, 0), false, (1, 0x70, 0x20)),
 ];
-
-/// If there is no caller the registers stay.
-#[test]
-fn ends(rt: HostRuntime) {
-    for &(rule, is_first_frame, before) in &ENDS {
-        assert_step(&rt, rule, is_first_frame, before, Ok(None), before);
-    }
-}
 
 static REFUSALS: [(UnwindRuleAarch64, bool, Registers, Error); 29] = [
     (NO_OP, false, START, STAYS),
@@ -234,9 +217,16 @@ static REFUSALS: [(UnwindRuleAarch64, bool, Registers, Error); 29] = [
     ),
 ];
 
-/// The first error is returned, and the registers stay.
+/// The first four callers are a walk, of which the last has no caller. If there is no caller the registers stay. The first error is
+/// returned.
 #[test]
-fn refuses(rt: HostRuntime) {
+fn steps_by_rules(rt: HostRuntime) {
+    for &(rule, is_first_frame, before, after) in &CALLERS {
+        assert_step(&rt, rule, is_first_frame, before, Ok(Some(after.0)), after);
+    }
+    for &(rule, is_first_frame, before) in &ENDS {
+        assert_step(&rt, rule, is_first_frame, before, Ok(None), before);
+    }
     for &(rule, is_first_frame, before, error) in &REFUSALS {
         assert_step(&rt, rule, is_first_frame, before, Err(error), before);
     }
@@ -333,18 +323,12 @@ fn names_the_common_rules(rt: HostRuntime) {
 }
 
 #[test]
-fn prints(rt: HostRuntime) -> Result<(), Fail> {
+fn prints(rt: HostRuntime) {
     let regs = UnwindRegsAarch64::new(0x1000, 0xab, 0);
+    let (mask, rule) = (PtrAuthMask(255), with_both!(1, -2, 3));
+    let text = format!(in rt.alloc(); "{regs:?} {mask:?} {rule:?}").expect(&rt, "memory");
     assert!(rt;
-        format!(in rt.alloc(); "{regs:?}")?.as_str()
-            == "UnwindRegsAarch64 { lr: 1000, sp: ab, fp: 0 }"
+        text.as_str()
+            == "UnwindRegsAarch64 { lr: 1000, sp: ab, fp: 0 } PtrAuthMask(255) OffsetSpAndRestoreFpAndLr { sp_offset_by_16: 1, fp_storage_offset_from_sp_by_8: -2, lr_storage_offset_from_sp_by_8: 3 }"
     );
-    let mask = PtrAuthMask(255);
-    assert!(rt; format!(in rt.alloc(); "{mask:?}")?.as_str() == "PtrAuthMask(255)");
-    let rule = with_both!(1, -2, 3);
-    assert!(rt;
-        format!(in rt.alloc(); "{rule:?}")?.as_str()
-            == "OffsetSpAndRestoreFpAndLr { sp_offset_by_16: 1, fp_storage_offset_from_sp_by_8: -2, lr_storage_offset_from_sp_by_8: 3 }"
-    );
-    Ok(())
 }
