@@ -2,7 +2,6 @@ ghost use Rattle.framehop_ranges.specs.Ranges.{Sound};
 
 use framehop_ranges::{RangeTable, Ranges, SameValue};
 use std::alloc::{AllocError, Global};
-use std::test::Fail;
 
 // A value of a range.
 #[derive(Clone, Copy)]
@@ -48,8 +47,8 @@ static LETTERS: [(u32, u8); 10] = [
 ];
 
 #[test]
-fn addresses_have_the_letters_of_their_ranges(rt: HostRuntime) -> Result<(), Fail> {
-    let table = table_of(rt.alloc(), &ENDS)?;
+fn addresses_have_the_letters_of_their_ranges(rt: HostRuntime) {
+    let table = table_of(rt.alloc(), &ENDS).expect(&rt, "memory");
     for (address, letter) in &LETTERS {
         assert!(rt;
             table.look_up(*address).value.0 == *letter,
@@ -58,28 +57,29 @@ fn addresses_have_the_letters_of_their_ranges(rt: HostRuntime) -> Result<(), Fai
     }
     assert!(rt; table.look_up(0x1000).starts_read == 0);
     // a table without ranges has one letter
-    let empty = table_of(rt.alloc(), &[])?;
+    let empty = table_of(rt.alloc(), &[]).expect(&rt, "memory");
     for address in [0, 8, 0xffff_ffff] {
         let found = empty.look_up(address);
         assert!(rt; found.value.0 == b'-' && found.starts_read == 0);
     }
-    Ok(())
 }
 
 #[test]
-fn few_starts_are_read_of_many(rt: HostRuntime) -> Result<(), Fail> {
+fn few_starts_are_read_of_many(rt: HostRuntime) {
     let mut ends = Vec::new(rt.alloc());
     for i in 0..1_000u32 {
-        ends.push((8 + 16 * (i + 1), (i % 7) as u8))?;
+        ends.push((8 + 16 * (i + 1), (i % 7) as u8))
+            .expect(&rt, "memory");
     }
-    let table = table_of(rt.alloc(), &ends)?;
+    let table = table_of(rt.alloc(), &ends).expect(&rt, "memory");
     for i in 0..1_000u32 {
         let (first, last) = (8 + 16 * i, 23 + 16 * i);
         for address in [first, last] {
             let found = table.look_up(address);
-            assert!(rt; found.value.0 == (i % 7) as u8, "at {address:#x}");
-            assert!(rt; found.starts_read <= 5, "at {address:#x}");
+            assert!(rt;
+                found.value.0 == (i % 7) as u8 && found.starts_read <= 5,
+                "at {address:#x}"
+            );
         }
     }
-    Ok(())
 }

@@ -5,11 +5,10 @@ use crate::compact::tables::{
     X86_64_FRAMES_FUNCTIONS, X86_64_FRAMES_TABLES, X86_64_FRAMES_TEXT, X86_64_FUNCTIONS,
     X86_64_TABLES, X86_64_TEXT,
 };
-use framehop_compact::x86_64::ArchX86_64;
+use framehop_compact::x86_64::{ArchX86_64, UnwindRuleX86_64};
 use framehop_compact::{CompactUnwindInfoUnwinder, CuiUnwindResult, TextBytes};
 use framehop_compact_tables::{CompactFormatError, Function, UnwindInfo, is_increasing};
 use std::process::Abort;
-use std::test::Fail;
 
 /// Where the code of either library starts.
 const TEXT_START: u32 = 0x560;
@@ -48,7 +47,7 @@ fn function_of((start_address, end_address, opcode): (u32, u32, u32)) -> Functio
 }
 
 #[test]
-fn functions_are_those_that_llvm_reads(rt: HostRuntime) -> Result<(), Fail> {
+fn functions_are_those_that_llvm_reads(rt: HostRuntime) {
     for parts in X86_64_FUNCTIONS {
         assert_function(&rt, &X86_64_TABLES, function_of(parts));
     }
@@ -58,38 +57,34 @@ fn functions_are_those_that_llvm_reads(rt: HostRuntime) -> Result<(), Fail> {
     for parts in AARCH64_FUNCTIONS {
         assert_function(&rt, &AARCH64_TABLES, function_of(parts));
     }
-    Ok(())
 }
 
+/// The tables of a library, its code, and the rules of its functions' bodies.
+type Library = (
+    &'static [u8],
+    &'static [u8],
+    &'static [(u32, UnwindRuleX86_64)],
+);
+
 #[test]
-fn bodies_have_the_rules_of_their_rows(rt: HostRuntime) -> Result<(), Fail> {
-    let text = Some(TextBytes::new(TEXT_START, &X86_64_TEXT));
-    let frameless = CompactUnwindInfoUnwinder::<ArchX86_64>::new(
-        &X86_64_TABLES,
-        text,
-        (0, 0),
-        (0, 0),
-    );
-    for (address, rule) in X86_64_BODIES {
-        let found = frameless.unwind_frame(address, false);
-        assert!(rt;
-            found == Ok(CuiUnwindResult::ExecRule(rule)),
-            "{address:x} {found:?}"
-        );
+fn bodies_have_the_rules_of_their_rows(rt: HostRuntime) {
+    let libraries: [Library; 2] = [
+        (&X86_64_TABLES, &X86_64_TEXT, &X86_64_BODIES),
+        (
+            &X86_64_FRAMES_TABLES,
+            &X86_64_FRAMES_TEXT,
+            &X86_64_FRAMES_BODIES,
+        ),
+    ];
+    for (tables, text, bodies) in libraries {
+        let text = Some(TextBytes::new(TEXT_START, text));
+        let unwinder = CompactUnwindInfoUnwinder::<ArchX86_64>::new(tables, text, (0, 0), (0, 0));
+        for &(address, rule) in bodies {
+            let found = unwinder.unwind_frame(address, false);
+            assert!(rt;
+                found == Ok(CuiUnwindResult::ExecRule(rule)),
+                "{address:x} {found:?}"
+            );
+        }
     }
-    let text = Some(TextBytes::new(TEXT_START, &X86_64_FRAMES_TEXT));
-    let framed = CompactUnwindInfoUnwinder::<ArchX86_64>::new(
-        &X86_64_FRAMES_TABLES,
-        text,
-        (0, 0),
-        (0, 0),
-    );
-    for (address, rule) in X86_64_FRAMES_BODIES {
-        let found = framed.unwind_frame(address, false);
-        assert!(rt;
-            found == Ok(CuiUnwindResult::ExecRule(rule)),
-            "{address:x} {found:?}"
-        );
-    }
-    Ok(())
 }

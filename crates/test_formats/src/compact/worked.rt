@@ -112,7 +112,7 @@ pub fn assert_caller(
     let answer = step_by_passing(&tables_with(encoding), frame);
     assert_step(rt, encoding, frame, answer);
     let mut regs = UnwindRegsX86_64::new(0x100000 + u64::from(frame.0), sp, bp);
-    let mut read = |address: u64| word_at(address);
+    let mut read = word_at;
     match answer {
         Ok(CuiUnwindResult::ExecRule(rule)) => {
             assert!(rt; rule.is_valid(), "{rule:?}");

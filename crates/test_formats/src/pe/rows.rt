@@ -3,7 +3,6 @@
 use dwarf_readers::{Counted, Steps, count_steps};
 use framehop_pe::{pdata_is_increasing, pdata_lookup, pdata_lookup_increasing};
 use std::sync::ledger::Ledger;
-use std::test::Fail;
 
 /// Three functions: 0x10 to 0x20, 0x20 to 0x28 and 0x30 to 0x40; and a rest that is no row.
 const INCREASING: [u8; 41] = [
@@ -35,32 +34,30 @@ impl Counted for Lookup {
     }
 }
 
-#[test]
-fn halving_finds_what_a_pass_finds(rt: HostRuntime) -> Result<(), Fail> {
-    assert!(rt; pdata_is_increasing(&INCREASING));
-    for (address, row) in [
-        (0xf, None),
-        (0x10, Some(0)),
-        (0x1f, Some(0)),
-        (0x20, Some(1)),
-        (0x28, None),
-        (0x30, Some(2)),
-        (0x3f, Some(2)),
-        (0x40, None),
-        (0x55, None),
-    ] {
-        assert!(rt; pdata_lookup(&INCREASING, address) == row, "{address:x}");
-        assert!(rt; count_steps(Lookup { address }) == row, "{address:x}");
-    }
-    Ok(())
-}
+/// Addresses, and the rows of their functions.
+static ROWS: [(u32, Option<usize>); 9] = [
+    (0xf, None),
+    (0x10, Some(0)),
+    (0x1f, Some(0)),
+    (0x20, Some(1)),
+    (0x28, None),
+    (0x30, Some(2)),
+    (0x3f, Some(2)),
+    (0x40, None),
+    (0x55, None),
+];
 
+/// Of functions that overlap the first row counts.
 #[test]
-fn the_first_row_counts(rt: HostRuntime) -> Result<(), Fail> {
-    assert!(rt; !pdata_is_increasing(&OVERLAPPING));
+fn halving_finds_what_a_pass_finds(rt: HostRuntime) {
+    assert!(rt; pdata_is_increasing(&INCREASING) && pdata_is_increasing(&[]));
+    for &(address, row) in &ROWS {
+        assert!(rt;
+            pdata_lookup(&INCREASING, address) == row && count_steps(Lookup { address }) == row,
+            "{address:x}"
+        );
+    }
+    assert!(rt; !pdata_is_increasing(&OVERLAPPING) && pdata_lookup(&[], 0).is_none());
     assert!(rt; pdata_lookup(&OVERLAPPING, 0x20) == Some(0));
     assert!(rt; pdata_lookup(&OVERLAPPING, 0x21) == Some(1));
-    assert!(rt; pdata_is_increasing(&[]));
-    assert!(rt; pdata_lookup(&[], 0).is_none());
-    Ok(())
 }
