@@ -1,16 +1,14 @@
-//! Tests of modules' sections, of unwinders that share caches, of walks, and of what commands write
-//! in a session, over modules that are tables, by public calls alone.
+//! Tests of modules' sections, of unwinders that share caches, of walks, and of commands that are refused, over modules that are tables,
+//! by public calls alone. `cases_unwinding` has sequences of commands as worked documents.
 #![tactic(auto)]
 
 mod callers;
 #[cfg(test)]
 mod commands;
 #[cfg(test)]
-mod removals;
+mod ends;
 #[cfg(test)]
 mod sections;
-#[cfg(test)]
-mod sessions;
 mod tables;
 #[cfg(test)]
 mod walks;

@@ -1,10 +1,11 @@
-//! A worked stack, modules that say one thing, and what a cache counted.
-use crate::tables::{Row, Said};
-use framehop_unwinder::{
-    AddUnwinderError, CacheStats, FrameAddress, LoadError, Module, UnwinderId,
-};
-use std::alloc::Global;
+//! A worked stack, a module that says one thing, and an unwinder and a session that have it.
+use crate::tables::{Row, Said, Tables};
+use framehop_rules::x86_64::ArchX86_64;
+use framehop_unwinder::{Generations, Module, Session, Unwinder, UnwinderInternal};
+use std::alloc::{AllocError, Global};
 use std::test::Fail;
+
+pub type Toy = Tables<ArchX86_64>;
 
 /// Sixteen words of a stack, at addresses 0, 8, .. 0x78: frames at 0x20 and 0x40, the last at 0x70.
 const WORDS: [u64; 16] = [
@@ -19,62 +20,41 @@ pub fn word_at(address: u64) -> Result<u64, ()> {
     WORDS.get((address / 8) as usize).copied().ok_or(())
 }
 
-/// A module at a range of addresses, whose base is its start, that says one thing at one address,
-/// and nothing elsewhere.
-pub fn module(
-    alloc: Global,
-    start: u64,
-    end: u64,
-    relative_address: u32,
-    said: Said,
-) -> Result<Module<Vec<Row>>, Fail> {
-    let name = String::from_str(alloc, "m")?;
+/// A module from 0x100000 to 0x102000 that says one thing at 0x101000, and nothing elsewhere.
+pub fn module(alloc: Global, said: Said) -> Result<Module<Vec<Row>>, AllocError> {
     let mut rows = Vec::new(alloc);
     rows.push(Row {
-        relative_address,
+        relative_address: 0x1000,
         said,
     })?;
-    Ok(Module::new(alloc, name, start..end, start, rows)?)
+    let name = String::from_str(alloc, "m")?;
+    Module::new(alloc, name, 0x100000..0x102000, 0x100000, rows)
 }
 
-/// The frame of an instruction pointer.
-pub fn first(address: u64) -> FrameAddress {
-    FrameAddress::from_instruction_pointer(address)
-}
-
-/// What a cache counted: hits, empty slots, wrong modules, wrong addresses.
-pub fn counts(stats: CacheStats) -> (u64, u64, u64, u64) {
-    (
-        stats.hit_count,
-        stats.miss_empty_slot_count,
-        stats.miss_wrong_modules_count,
-        stats.miss_wrong_address_count,
-    )
-}
-
-/// A load that has to succeed, unless memory is refused.
-pub fn loaded<M: Drop>(answer: Result<(), LoadError<M>>) -> Result<(), Fail> {
-    match answer {
-        Ok(()) => Ok(()),
-        Err(LoadError::OutOfMemory(_)) => Err(Fail::new("OutOfMemory")),
-        Err(LoadError::GenerationsExhausted(_)) => Err(Fail::new("GenerationsExhausted")),
+/// An unwinder that has this module.
+pub fn unwinder_of(alloc: Global, said: Said) -> Result<UnwinderInternal<Toy>, Fail> {
+    let mut generations = Generations::new();
+    let Ok(mut unwinder) = UnwinderInternal::<Toy>::new(alloc, &mut generations) else {
+        return Err(Fail::new("OutOfMemory"));
+    };
+    if unwinder
+        .add_module(&mut generations, module(alloc, said)?)
+        .is_err()
+    {
+        return Err(Fail::new("OutOfMemory"));
     }
+    Ok(unwinder)
 }
 
-/// A new unwinder that has to be made, unless memory is refused.
-pub fn added(answer: Result<UnwinderId, AddUnwinderError>) -> Result<UnwinderId, Fail> {
-    match answer {
-        Ok(unwinder) => Ok(unwinder),
-        Err(AddUnwinderError::OutOfMemory) => Err(Fail::new("OutOfMemory")),
-        Err(AddUnwinderError::GenerationsExhausted) => Err(Fail::new("GenerationsExhausted")),
+/// A session of one unwinder, which has this module, and of one cache.
+pub fn session_of(alloc: Global, said: Said) -> Result<Session<Toy>, Fail> {
+    let mut session: Session<Toy> = Session::new(alloc, Generations::new());
+    session.add_cache(alloc)?;
+    let Ok(unwinder) = session.add_unwinder(alloc) else {
+        return Err(Fail::new("OutOfMemory"));
+    };
+    if session.load(unwinder, module(alloc, said)?)?.is_err() {
+        return Err(Fail::new("OutOfMemory"));
     }
-}
-
-/// The next number of a sequence that looks random (the generator of glibc's `rand_r`, but in 64
-/// bits with Knuth's factor).
-pub fn next_random(state: &mut u64) -> u64 {
-    *state = state
-        .wrapping_mul(6364136223846793005)
-        .wrapping_add(1442695040888963407);
-    *state >> 33
+    Ok(session)
 }
