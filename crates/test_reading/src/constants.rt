@@ -6,7 +6,6 @@ use dwarf_constants::{
 };
 use dwarf_offsets::{DebugFrameOffset, EhFrameOffset};
 use std::alloc::{AllocError, Global};
-use std::test::Fail;
 
 /// A family of constants.
 #[derive(Clone, Copy)]
@@ -157,8 +156,13 @@ fn constants_are_numbered_as_in_the_standards(rt: HostRuntime) {
         }
     }
     for (kind, count) in &COUNTS {
-        let named = (0..=u16::MAX).filter(|value| name_of(*kind, *value).is_some());
-        assert!(rt; named.count() == *count, "{count}");
+        let mut named = 0usize;
+        for value in 0..=u16::MAX {
+            if name_of(*kind, value).is_some() {
+                named = named.wrapping_add(1);
+            }
+        }
+        assert!(rt; named == *count, "{count}");
     }
 }
 
@@ -257,17 +261,15 @@ static ERRORS: [(Error, &str); 42] = [
 ];
 
 #[test]
-fn constants_and_errors_are_printed(rt: HostRuntime) -> Result<(), Fail> {
+fn constants_and_errors_are_printed(rt: HostRuntime) {
     for (kind, value, text) in &PRINTED {
-        assert!(rt;
-            printed(rt.alloc(), *kind, *value)?.as_str() == *text,
-            "{text}"
-        );
+        let given = printed(rt.alloc(), *kind, *value).expect(&rt, "memory");
+        assert!(rt; given.as_str() == *text, "{text}");
     }
     for (error, name) in &ERRORS {
-        assert!(rt; error.to_string(rt.alloc())?.as_str() == *name, "{name}");
+        let given = error.to_string(rt.alloc()).expect(&rt, "memory");
+        assert!(rt; given.as_str() == *name, "{name}");
     }
-    Ok(())
 }
 
 // The encoding that compilers write for shared libraries, 0x9b, is an indirect offset of 4 bytes.
@@ -281,8 +283,13 @@ fn pointer_encodings_are_taken_apart(rt: HostRuntime) {
     assert!(rt; !DwEhPe(0x1b).is_indirect());
     assert!(rt; DW_EH_PE_omit.is_absent());
     assert!(rt; !encoding.is_absent());
-    let valid = (0..=255u8).filter(|value| DwEhPe(*value).is_valid_encoding());
-    assert!(rt; valid.count() == 9 * 6 * 2 + 1);
+    let mut valid = 0u32;
+    for value in 0..=255u8 {
+        if DwEhPe(value).is_valid_encoding() {
+            valid = valid.wrapping_add(1);
+        }
+    }
+    assert!(rt; valid == 9 * 6 * 2 + 1);
     for refused in [0x05, 0x08, 0x0d, 0x0f, 0x60, 0x6b, 0x75, 0xe0, 0xef, 0xf0] {
         assert!(rt; !DwEhPe(refused).is_valid_encoding(), "at {refused:#x}");
     }
@@ -351,43 +358,28 @@ fn sections_have_their_names(rt: HostRuntime) {
 
 // System V ABI for AMD64, figure 3.36; DWARF for the Arm 64-bit Architecture, 4.1.
 #[test]
-fn registers_are_numbered_as_in_the_abis(rt: HostRuntime) {
+fn plain_values_compare_by_their_numbers(rt: HostRuntime) {
     assert!(rt; [X86_64::RBP, X86_64::RSP, X86_64::RA] == [Register(6), Register(7), Register(16)]);
     assert!(rt; [AArch64::X29, AArch64::X30] == [Register(29), Register(30)]);
     assert!(rt; [AArch64::SP, AArch64::RA_SIGN_STATE] == [Register(31), Register(34)]);
+    assert!(rt; DwOp(3) < DwOp(4) && DwForm(0x1f01) > DwForm(0x2c));
+    assert!(rt; Register(6) != Register(7) && EhFrameOffset(7usize) < EhFrameOffset(8));
+    assert!(rt; ReaderOffsetId(7) == ReaderOffsetId(7));
 }
 
 #[test]
 fn encodings_have_sizes_and_defaults(rt: HostRuntime) {
-    assert!(rt;
-        (
-            Format::Dwarf32.initial_length_size(),
-            Format::Dwarf32.word_size()
-        ) == (4, 4)
-    );
-    assert!(rt;
-        (
-            Format::Dwarf64.initial_length_size(),
-            Format::Dwarf64.word_size()
-        ) == (12, 8)
-    );
+    for (format, initial_length_size, word_size) in [
+        (Format::Dwarf32, 4, 4),
+        (Format::Dwarf64, 12, 8),
+    ] {
+        assert!(rt; format.initial_length_size() == initial_length_size);
+        assert!(rt; format.word_size() == word_size);
+    }
     let line = LineEncoding::default();
-    assert!(rt;
-        (
-            line.minimum_instruction_length,
-            line.maximum_operations_per_instruction
-        ) == (1, 1)
-    );
-    assert!(rt; (line.default_is_stmt, line.line_base, line.line_range) == (true, -5, 14));
+    assert!(rt; line.minimum_instruction_length == 1);
+    assert!(rt; line.maximum_operations_per_instruction == 1);
+    assert!(rt; line.default_is_stmt && line.line_base == -5 && line.line_range == 14);
     assert!(rt; DebugFrameOffset::from(0x10u32) == DebugFrameOffset(0x10));
     assert!(rt; EhFrameOffset::from(0x10usize) == EhFrameOffset(0x10));
-}
-
-#[test]
-fn plain_values_compare_by_their_numbers(rt: HostRuntime) {
-    assert!(rt; DwOp(3) < DwOp(4));
-    assert!(rt; DwForm(0x1f01) > DwForm(0x2c));
-    assert!(rt; Register(6) != Register(7));
-    assert!(rt; EhFrameOffset(7usize) < EhFrameOffset(8));
-    assert!(rt; ReaderOffsetId(7) == ReaderOffsetId(7));
 }

@@ -31,9 +31,8 @@ fn stays<R: Reader>(
     outcome: Result<u64>,
 ) {
     for _ in 0..3 {
-        let answer = evaluation.evaluate();
-        assert!(rt; answer == outcome.map(|_| EvaluationResult::Complete));
-        assert!(rt; evaluation.value_result() == outcome.ok());
+        let refused = evaluation.evaluate().err();
+        assert!(rt; refused == outcome.err() && evaluation.value_result() == outcome.ok());
     }
     if let Err(error) = outcome
         && evaluation.evaluate().is_err()
@@ -73,33 +72,32 @@ fn an_outcome_stays(rt: HostRuntime) -> Outcome {
     Ok(())
 }
 
+static MANY_VALUES: [u8; 200] = [0x30; 200];
+
 // Values allocate more than once. If that fails, each call returns the error.
 #[test]
-fn want_of_memory_stays(rt: HostRuntime) -> Outcome {
-    let reader = EndianSlice::new(&[0x30; 200], RunTimeEndian::Little);
-    let mut evaluation = evaluation_of(rt.alloc(), reader, 8)?;
+fn want_of_memory_stays(rt: HostRuntime) {
+    let reader = EndianSlice::new(&MANY_VALUES, RunTimeEndian::Little);
+    let mut evaluation = evaluation_of(rt.alloc(), reader, 8).expect(&rt, "memory");
     if evaluation.evaluate().is_ok() {
         assert!(rt; evaluation.value_result() == Some(0));
     } else {
         stays(&rt, &mut evaluation, Err(Error::OutOfMemory));
     }
-    Ok(())
 }
 
 // An expression within a section: targets count from its start, missing bytes from the section's.
 #[test]
-fn an_expression_within_a_section(rt: HostRuntime) -> Outcome {
-    let branch = EndianSlice::new_at(&[0x31, 0x2f, 1, 0], LittleEndian, 0x1000);
-    let mut evaluation = evaluation_of(rt.alloc(), branch, 8)?;
-    stays(&rt, &mut evaluation, Err(Error::BadBranchTarget(5)));
-    let cut = EndianSlice::new_at(&[0x31, 0x0a, 1], LittleEndian, 0x1000);
-    let mut evaluation = evaluation_of(rt.alloc(), cut, 8)?;
-    stays(
-        &rt,
-        &mut evaluation,
-        Err(Error::UnexpectedEof(ReaderOffsetId(0x1002))),
-    );
-    Ok(())
+fn an_expression_within_a_section(rt: HostRuntime) {
+    let cut_off = Error::UnexpectedEof(ReaderOffsetId(0x1002));
+    for (bytes, error) in [
+        (b"\x31\x2f\x01\x00".as_slice(), Error::BadBranchTarget(5)),
+        (b"\x31\x0a\x01".as_slice(), cut_off),
+    ] {
+        let reader = EndianSlice::new_at(bytes, LittleEndian, 0x1000);
+        let mut evaluation = evaluation_of(rt.alloc(), reader, 8).expect(&rt, "memory");
+        stays(&rt, &mut evaluation, Err(error));
+    }
 }
 
 // Asks for register 7, and adds 8 to its value.
@@ -153,20 +151,13 @@ fn a_register_is_asked_for(rt: HostRuntime) -> Outcome {
 }
 
 #[test]
-fn texts(rt: HostRuntime) -> Outcome {
-    let alloc = rt.alloc();
+fn texts(rt: HostRuntime) {
     let answer = EvaluationResult::RequiresRegister {
         register: Register(16),
     };
-    let text = format!(in alloc;
-        "{answer:?} {:?} {:?}",
-        Value::Generic(5),
-        PushError::CapacityFull
-    )?;
-    let wanted = "RequiresRegister { register: Register(16) } Generic(5) CapacityFull";
-    assert!(rt; text.as_str() == wanted);
+    let (value, error) = (Value::Generic(5), PushError::CapacityFull);
     let expression = Expression(EndianSlice::new(&[0x31], LittleEndian));
-    let text = format!(in alloc; "{expression:?}")?;
-    assert!(rt; text.as_str().starts_with("Expression("));
-    Ok(())
+    let text = format!(in rt.alloc(); "{answer:?} {value:?} {error:?} {expression:?}");
+    let wanted = "RequiresRegister { register: Register(16) } Generic(5) CapacityFull Expression(";
+    assert!(rt; text.expect(&rt, "memory").as_str().starts_with(wanted));
 }

@@ -10,10 +10,9 @@ use dwarf_readers::{
     ReaderOffset, TwoPieces,
 };
 use std::borrow::{CowSlice, CowStr};
-use test_readers::Outcome;
 
 #[test]
-fn parts_of_slices(rt: HostRuntime) {
+fn parts_orders_and_offsets(rt: HostRuntime) {
     let bytes = [1, 2, 3, 4, 5];
     let whole = EndianSlice::new_at(&bytes, LittleEndian, 100);
     let (part, rest) = whole.split_at(2);
@@ -22,10 +21,6 @@ fn parts_of_slices(rt: HostRuntime) {
     assert!(rt; rest.lookup_offset_id(ReaderOffsetId(105)) == Some(3));
     let text = EndianSlice::new(&[0x61, 0xff], LittleEndian);
     assert!(rt; text.to_string().err() == Some(Error::BadUtf8));
-}
-
-#[test]
-fn orders_and_offsets_by_themselves(rt: HostRuntime) {
     let mut out = [0; 2];
     BigEndian.write_u16(&mut out, 0x1234);
     assert!(rt; out == [0x12, 0x34]);
@@ -109,20 +104,20 @@ static TEXTS: [(&[u8], &[u8], &str); 4] = [
 
 // Bytes are lent if they lie on one side of the joint, and else copied.
 #[test]
-fn texts_across_a_joint(rt: HostRuntime) -> Outcome {
+fn texts_across_a_joint(rt: HostRuntime) {
     for (first, second, wanted) in &TEXTS {
         let pieces = TwoPieces::new(first, second, LittleEndian);
         let is_lent = first.is_empty() || second.is_empty();
-        let bytes = pieces.to_slice(rt.alloc())?;
+        let bytes = pieces.to_slice(rt.alloc()).expect(&rt, "memory");
         assert!(rt; bytes.as_slice() == wanted.as_bytes());
         assert!(rt; matches!(&bytes, CowSlice::Borrowed(_)) == is_lent);
-        let text = pieces.to_string(rt.alloc())?;
+        let text = pieces.to_string(rt.alloc()).expect(&rt, "memory");
         assert!(rt; text.as_str() == *wanted);
         assert!(rt; matches!(&text, CowStr::Borrowed(_)) == is_lent);
-        assert!(rt; pieces.to_string_lossy(rt.alloc())?.as_str() == *wanted);
+        let text = pieces.to_string_lossy(rt.alloc()).expect(&rt, "memory");
+        assert!(rt; text.as_str() == *wanted);
     }
     let mut rest = TwoPieces::new(&[0xc3], &[0xa9], LittleEndian);
-    rest.skip(1)?;
+    rest.skip(1).expect(&rt, "a byte");
     assert!(rt; rest.to_string(rt.alloc()).err() == Some(Error::BadUtf8));
-    Ok(())
 }

@@ -49,17 +49,9 @@ impl Reading for ValueOf {
 }
 
 #[test]
-fn values_with_registers(rt: HostRuntime) -> Outcome {
-    check_all(&rt, rt.alloc(), &OverReaders(ValueOf), &PLT)
-}
-
-#[test]
-fn values_with_a_branch_and_constants(rt: HostRuntime) -> Outcome {
-    check_all(&rt, rt.alloc(), &OverReaders(ValueOf), &COUNT)
-}
-
-#[test]
-fn values_of_worked_documents(rt: HostRuntime) -> Outcome {
+fn values_of_expressions(rt: HostRuntime) -> Outcome {
+    check_all(&rt, rt.alloc(), &OverReaders(ValueOf), &PLT)?;
+    check_all(&rt, rt.alloc(), &OverReaders(ValueOf), &COUNT)?;
     for readings in &EXPRESSIONS {
         check_all(&rt, rt.alloc(), &OverReaders(ValueOf), readings)?;
     }

@@ -49,21 +49,9 @@ impl<H: Abort> Check<H> for FunctionOf {
 
 #[test]
 fn functions_of_unwind_info(rt: HostRuntime) -> Outcome {
-    check_all(&rt, rt.alloc(), &FunctionOf(0x1005), &COMPACT)
-}
-
-#[test]
-fn functions_of_a_page_that_does_not_increase(rt: HostRuntime) -> Outcome {
-    check_all(&rt, rt.alloc(), &FunctionOf(0x1005), &UNSORTED_PAGE)
-}
-
-#[test]
-fn functions_of_an_index_that_does_not_increase(rt: HostRuntime) -> Outcome {
-    check_all(&rt, rt.alloc(), &FunctionOf(0x1005), &UNSORTED_INDEX)
-}
-
-#[test]
-fn functions_of_worked_documents(rt: HostRuntime) -> Outcome {
+    for readings in [&COMPACT, &UNSORTED_PAGE, &UNSORTED_INDEX] {
+        check_all(&rt, rt.alloc(), &FunctionOf(0x1005), readings)?;
+    }
     for readings in &TABLES {
         check_all(&rt, rt.alloc(), &FunctionOf(0x1005), readings)?;
     }

@@ -72,7 +72,10 @@ fn populate<R: Reader>(
 fn table(alloc: Global, bytes: &[u8]) -> Result<Rc<Abbreviations>> {
     let section = DebugAbbrev::from(EndianSlice::new(bytes, LittleEndian));
     let table = section.abbreviations(alloc, DebugAbbrevOffset(0))?;
-    Rc::new(alloc, table).map_err(|_| Error::OutOfMemory)
+    match Rc::new(alloc, table) {
+        Ok(table) => Ok(table),
+        Err(_) => Err(Error::OutOfMemory),
+    }
 }
 
 // Whether a turn is answered as it has to be, over a section and one without bytes.

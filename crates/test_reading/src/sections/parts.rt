@@ -27,7 +27,7 @@ impl<H: Abort> ReaderTest<H> for PartTest {
         assert!(rt; found == Some((SectionId::DebugStr, 3)));
         assert!(rt; part.lookup_offset_id(ReaderOffsetId(5)).is_none());
         for (offset, size, end) in [(6, 0, 0), (2, 4, 2)] {
-            let refused = section.dwp_range(offset, size).map(|_| ()).err();
+            let refused = section.dwp_range(offset, size).err();
             assert!(rt; refused == Some(Error::UnexpectedEof(ReaderOffsetId(end))));
         }
         Ok(())
