@@ -3,8 +3,7 @@
 use core_files::{
     CoreFile, ProcessInfo, SignalInfo, SignalOrigin, read_process_info, read_signal_info,
 };
-use std::alloc::Global;
-use std::test::Fail;
+use std::alloc::{AllocError, Global};
 
 // What is at 16 of an NT_SIGINFO: an address, or process 4242 of user 1000.
 const FIELDS: u64 = 0x0000_03e8_0000_1092;
@@ -15,14 +14,13 @@ const SENT: SignalOrigin = SignalOrigin::Process {
 };
 
 // An NT_SIGINFO.
-fn push_signal(bytes: &mut Vec<u8>, signal: u32, code: u32) -> Result<(), Fail> {
+fn push_signal(bytes: &mut Vec<u8>, signal: u32, code: u32) -> Result<(), AllocError> {
     bytes.extend_from_slice(&signal.to_le_bytes())?;
     bytes.extend_from_slice(&[1; 4])?;
     bytes.extend_from_slice(&code.to_le_bytes())?;
     bytes.extend_from_slice(&[2; 4])?;
     bytes.extend_from_slice(&FIELDS.to_le_bytes())?;
-    bytes.extend_from_slice(&[3; 104])?;
-    Ok(())
+    bytes.extend_from_slice(&[3; 104])
 }
 
 // Signals, codes, and where they came from.
@@ -100,10 +98,10 @@ static ORIGINS: [(u32, u32, SignalOrigin); 18] = [
 ];
 
 #[test]
-fn origins(rt: HostRuntime) -> Result<(), Fail> {
+fn origins(rt: HostRuntime) {
     for (signal, code, origin) in &ORIGINS {
         let mut bytes = Vec::new(rt.alloc());
-        push_signal(&mut bytes, *signal, *code)?;
+        push_signal(&mut bytes, *signal, *code).expect(&rt, "memory");
         let expected = SignalInfo {
             signal: *signal,
             origin: *origin,
@@ -112,15 +110,14 @@ fn origins(rt: HostRuntime) -> Result<(), Fail> {
             read_signal_info(&bytes) == Some(expected),
             "{signal} {code:#x}"
         );
-        bytes.push(0)?;
+        bytes.push(0).expect(&rt, "memory");
         assert!(rt; read_signal_info(&bytes).is_none());
     }
     assert!(rt; read_signal_info(&[0; 127]).is_none());
-    Ok(())
 }
 
 // A text, and the zeros after it.
-fn push_padded(bytes: &mut Vec<u8>, text: &[u8], size: usize) -> Result<(), Fail> {
+fn push_padded(bytes: &mut Vec<u8>, text: &[u8], size: usize) -> Result<(), AllocError> {
     bytes.extend_from_slice(text)?;
     for _ in text.len()..size {
         bytes.push(0)?;
@@ -129,7 +126,7 @@ fn push_padded(bytes: &mut Vec<u8>, text: &[u8], size: usize) -> Result<(), Fail
 }
 
 // An NT_PRPSINFO of process 4242.
-fn push_process(bytes: &mut Vec<u8>, name: &[u8], arguments: &[u8]) -> Result<(), Fail> {
+fn push_process(bytes: &mut Vec<u8>, name: &[u8], arguments: &[u8]) -> Result<(), AllocError> {
     bytes.extend_from_slice(&[1; 24])?;
     bytes.extend_from_slice(&FIELDS.to_le_bytes())?;
     bytes.extend_from_slice(&[2; 8])?;
@@ -151,21 +148,20 @@ static PROCESSES: [(&[u8], &[u8], &[u8], &[u8]); 6] = [
 ];
 
 #[test]
-fn processes(rt: HostRuntime) -> Result<(), Fail> {
+fn processes(rt: HostRuntime) {
     for (name, arguments, name_read, arguments_read) in &PROCESSES {
         let mut bytes = Vec::new(rt.alloc());
-        push_process(&mut bytes, name, arguments)?;
+        push_process(&mut bytes, name, arguments).expect(&rt, "memory");
         let expected = ProcessInfo {
             id: 4242,
             name: *name_read,
             arguments: *arguments_read,
         };
         assert!(rt; read_process_info(&bytes) == Some(expected));
-        bytes.push(0)?;
+        bytes.push(0).expect(&rt, "memory");
         assert!(rt; read_process_info(&bytes).is_none());
     }
     assert!(rt; read_process_info(&[0; 135]).is_none());
-    Ok(())
 }
 
 // The header, and the program header of a segment of notes with 1276 bytes.
@@ -177,33 +173,31 @@ const HEADERS: [u8; 120] = [
 ];
 
 // What a note of the kernel's begins with.
-fn push_note(core: &mut Vec<u8>, size: u32, kind: u32) -> Result<(), Fail> {
+fn push_note(core: &mut Vec<u8>, size: u32, kind: u32) -> Result<(), AllocError> {
     core.extend_from_slice(&5u32.to_le_bytes())?;
     core.extend_from_slice(&size.to_le_bytes())?;
     core.extend_from_slice(&kind.to_le_bytes())?;
-    core.extend_from_slice(b"CORE\0\0\0\0")?;
-    Ok(())
+    core.extend_from_slice(b"CORE\0\0\0\0")
 }
 
 // The NT_PRSTATUS of a thread with its signal.
-fn push_prstatus(core: &mut Vec<u8>, id: u8, signal: u16) -> Result<(), Fail> {
+fn push_prstatus(core: &mut Vec<u8>, id: u8, signal: u16) -> Result<(), AllocError> {
     push_note(core, 392, 1)?;
     core.extend_from_slice(&[0xee; 12])?;
     core.extend_from_slice(&signal.to_le_bytes())?;
     core.extend_from_slice(&[0xee; 18])?;
     core.extend_from_slice(&[id, 0, 0, 0])?;
-    core.extend_from_slice(&[0; 356])?;
-    Ok(())
+    core.extend_from_slice(&[0; 356])
 }
 
 // The NT_SIGINFO of a signal that has no address.
-fn push_siginfo(core: &mut Vec<u8>, signal: u32) -> Result<(), Fail> {
+fn push_siginfo(core: &mut Vec<u8>, signal: u32) -> Result<(), AllocError> {
     push_note(core, 128, 0x5349_4749)?;
     push_signal(core, signal, 0)
 }
 
 // Two threads with a signal each.
-fn core_of_two(alloc: Global) -> Result<Vec<u8>, Fail> {
+fn core_of_two(alloc: Global) -> Result<Vec<u8>, AllocError> {
     let mut core = Vec::new(alloc);
     core.extend_from_slice(&HEADERS)?;
     push_prstatus(&mut core, 7, 11)?;
@@ -216,15 +210,13 @@ fn core_of_two(alloc: Global) -> Result<Vec<u8>, Fail> {
 }
 
 #[test]
-fn of_the_first_thread(rt: HostRuntime) -> Result<(), Fail> {
-    let bytes = core_of_two(rt.alloc())?;
-    let core = CoreFile::parse(rt.alloc(), &bytes)?;
+fn of_the_first_thread(rt: HostRuntime) {
+    let bytes = core_of_two(rt.alloc()).expect(&rt, "memory");
+    let core = CoreFile::parse(rt.alloc(), &bytes).expect(&rt, "a core");
     let [first, second] = core.threads() else {
-        assert!(rt; false);
-        return Ok(());
+        panic!(rt; "two threads");
     };
-    assert!(rt; first.id == 7 && first.signal == 11);
-    assert!(rt; second.id == 8 && second.signal == 0x1234);
+    assert!(rt; (first.id, first.signal) == (7, 11) && (second.id, second.signal) == (8, 0x1234));
     let signal = SignalInfo {
         signal: 11,
         origin: SENT,
@@ -236,5 +228,4 @@ fn of_the_first_thread(rt: HostRuntime) -> Result<(), Fail> {
         arguments: b"./shop",
     };
     assert!(rt; core.process_info() == Some(process));
-    Ok(())
 }

@@ -6,21 +6,14 @@ use core_files::{CoreError, CoreFile, SegmentBytes};
 use elf_files::{ElfFile, SegmentKind};
 use std::alloc::Global;
 use std::process::Abort;
-use std::test::Fail;
 
-fn expect_threads(
-    rt: &impl Abort,
-    alloc: Global,
-    core: &CoreFile<'_>,
-    listed: &Listed,
-) -> Result<(), Fail> {
+fn expect_threads(rt: &impl Abort, alloc: Global, core: &CoreFile<'_>, listed: &Listed) {
     assert!(rt; core.threads().len() == listed.threads.len());
     for (thread, (id, registers)) in core.threads().iter().zip(listed.threads) {
-        assert!(rt; thread.id == *id);
-        assert!(rt; thread.pointer_authentication_masks.is_none());
-        assert!(rt; in_order(alloc, &thread.registers)?.as_slice() == *registers);
+        assert!(rt; thread.id == *id && thread.pointer_authentication_masks.is_none());
+        let given = in_order(alloc, &thread.registers).expect(rt, "memory");
+        assert!(rt; given.as_slice() == *registers);
     }
-    Ok(())
 }
 
 fn expect_files(rt: &impl Abort, core: &CoreFile<'_>, listed: &Listed) {
@@ -32,19 +25,13 @@ fn expect_files(rt: &impl Abort, core: &CoreFile<'_>, listed: &Listed) {
 }
 
 /// The notes of the core say what is listed.
-pub fn expect_notes(
-    rt: &impl Abort,
-    alloc: Global,
-    core: &CoreFile<'_>,
-    listed: &Listed,
-) -> Result<(), Fail> {
-    expect_threads(rt, alloc, core, listed)?;
+pub fn expect_notes(rt: &impl Abort, alloc: Global, core: &CoreFile<'_>, listed: &Listed) {
+    expect_threads(rt, alloc, core, listed);
     expect_files(rt, core, listed);
     for (kind, value) in listed.auxiliary {
         assert!(rt; core.auxiliary(*kind) == Some(*value));
     }
     assert!(rt; core.auxiliary(1000).is_none());
-    Ok(())
 }
 
 /// Why a core isn't read, as a whole or in parts.
@@ -60,12 +47,13 @@ pub fn refusal(alloc: Global, bytes: &[u8], parts: Option<&[SegmentBytes]>) -> O
 }
 
 /// Where the first loaded segment is, which comes after all notes.
-pub fn notes_end(elf: &ElfFile<'_>) -> Result<u64, Fail> {
+pub fn notes_end(elf: &ElfFile<'_>) -> u64 {
     for index in 0..elf.segment_count() {
-        let segment = elf.segment(index)?;
-        if segment.kind == SegmentKind::Load {
-            return Ok(segment.offset);
+        if let Ok(segment) = elf.segment(index)
+            && segment.kind == SegmentKind::Load
+        {
+            return segment.offset;
         }
     }
-    Ok(0)
+    0
 }

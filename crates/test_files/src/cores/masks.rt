@@ -1,7 +1,7 @@
 //! A core of aarch64 that is written by hand, with masks of pointer authentication for the first of two threads.
 
 use core_files::{CoreFile, PointerAuthenticationMasks};
-use std::test::Fail;
+use std::alloc::{AllocError, Global};
 
 // The header, and the program header of a segment of notes with 860 bytes.
 const HEADERS: [u8; 120] = [
@@ -12,14 +12,13 @@ const HEADERS: [u8; 120] = [
 ];
 
 // The NT_PRSTATUS of a thread.
-fn push_prstatus(core: &mut Vec<u8>, id: u8) -> Result<(), Fail> {
+fn push_prstatus(core: &mut Vec<u8>, id: u8) -> Result<(), AllocError> {
     core.extend_from_slice(&[
         5, 0, 0, 0, 0x88, 1, 0, 0, 1, 0, 0, 0, b'C', b'O', b'R', b'E', 0, 0, 0, 0,
     ])?;
     let mut descriptor = [0; 392];
     descriptor[32] = id;
-    core.extend_from_slice(&descriptor)?;
-    Ok(())
+    core.extend_from_slice(&descriptor)
 }
 
 // An NT_ARM_PAC_MASK.
@@ -33,23 +32,25 @@ const MASKS: PointerAuthenticationMasks = PointerAuthenticationMasks {
     instruction_mask: 0x00ff_0000_0000_0000,
 };
 
-#[test]
-fn of_the_first_thread(rt: HostRuntime) -> Result<(), Fail> {
-    let mut bytes = Vec::new(rt.alloc());
+// A core of two threads.
+fn core_of_two(alloc: Global) -> Result<Vec<u8>, AllocError> {
+    let mut bytes = Vec::new(alloc);
     bytes.extend_from_slice(&HEADERS)?;
     push_prstatus(&mut bytes, 7)?;
     bytes.extend_from_slice(&PAC_MASK)?;
     push_prstatus(&mut bytes, 8)?;
-    let core = CoreFile::parse(rt.alloc(), &bytes)?;
+    Ok(bytes)
+}
+
+#[test]
+fn of_the_first_thread(rt: HostRuntime) {
+    let bytes = core_of_two(rt.alloc()).expect(&rt, "memory");
+    let core = CoreFile::parse(rt.alloc(), &bytes).expect(&rt, "a core");
     let [first, second] = core.threads() else {
-        assert!(rt; false);
-        return Ok(());
+        panic!(rt; "two threads");
     };
-    assert!(rt; first.id == 7 && second.id == 8);
-    assert!(rt; first.pointer_authentication_masks == Some(MASKS));
-    assert!(rt; second.pointer_authentication_masks.is_none());
-    assert!(rt; core.mapped_files().is_empty());
-    assert!(rt; core.segments().is_empty());
+    assert!(rt; first.id == 7 && first.pointer_authentication_masks == Some(MASKS));
+    assert!(rt; second.id == 8 && second.pointer_authentication_masks.is_none());
+    assert!(rt; core.mapped_files().is_empty() && core.segments().is_empty());
     assert!(rt; core.auxiliary(6).is_none());
-    Ok(())
 }

@@ -1,9 +1,6 @@
 //! Memory by segments and mapped files.
 
 use core_files::{MappedFile, Memory, MemoryRange};
-use std::alloc::Global;
-use std::process::Abort;
-use std::test::Fail;
 
 const LOW: &[u8] = &[1, 2, 3, 4, 5, 6, 7, 8, 9, 10, 11, 12];
 
@@ -61,7 +58,7 @@ type Case = (
     &'static [(u64, Option<u64>)],
 );
 
-static SEGMENTS: [Case; 4] = [
+static CASES: [Case; 11] = [
     // words in one segment and over two
     (
         &[range!(0x1000, 12, 0, LOW, 0), range!(0x100c, 8, 0, HIGH, 0)],
@@ -104,9 +101,6 @@ static SEGMENTS: [Case; 4] = [
             (0xffff_ffff_ffff_fff9, None),
         ],
     ),
-];
-
-static FILES: [Case; 4] = [
     // bytes that are left out are those of the file
     (
         &[range!(0x1000, 16, 0, ALONE, 0)],
@@ -143,9 +137,7 @@ static FILES: [Case; 4] = [
         ],
         &[],
     ),
-];
-
-static ZEROS: [Case; 3] = [
+    // zeros before the bytes
     (
         &[range!(0x1000, 12, 3, NINE, 0)],
         &[],
@@ -179,11 +171,12 @@ static ZEROS: [Case; 3] = [
     ),
 ];
 
-fn expect_memory(rt: &impl Abort, alloc: Global, cases: &[Case]) -> Result<(), Fail> {
-    for (segments, mappings, bytes, words) in cases {
-        let mut files = Vec::new(alloc);
+#[test]
+fn bytes_and_words(rt: HostRuntime) {
+    for (segments, mappings, bytes, words) in &CASES {
+        let mut files = Vec::new(rt.alloc());
         for mapping in *mappings {
-            files.push(mapping.range(LOW))?;
+            files.push(mapping.range(LOW)).expect(&rt, "memory");
         }
         let memory = Memory::new(segments, &files);
         for (address, byte) in *bytes {
@@ -193,14 +186,6 @@ fn expect_memory(rt: &impl Abort, alloc: Global, cases: &[Case]) -> Result<(), F
             assert!(rt; memory.word(*address) == *word, "{address:#x}");
         }
     }
-    Ok(())
-}
-
-#[test]
-fn bytes_and_words(rt: HostRuntime) -> Result<(), Fail> {
-    expect_memory(&rt, rt.alloc(), &SEGMENTS)?;
-    expect_memory(&rt, rt.alloc(), &FILES)?;
-    expect_memory(&rt, rt.alloc(), &ZEROS)
 }
 
 // A file with these bytes after some zeros.

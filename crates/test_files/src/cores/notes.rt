@@ -7,7 +7,6 @@ use core_files::{
 };
 use elf_files::Machine;
 use std::process::Abort;
-use std::test::Fail;
 
 // Each byte is the low byte of its offset's half, so that each number tells where it was read.
 fn descriptor() -> [u8; 392] {
@@ -55,17 +54,17 @@ static PRSTATUS: [(Machine, usize, &[(usize, u64)]); 2] = [
 ];
 
 #[test]
-fn prstatus(rt: HostRuntime) -> Result<(), Fail> {
+fn prstatus(rt: HostRuntime) {
     let bytes = descriptor();
     for (machine, size, expected) in &PRSTATUS {
-        let status = read_prstatus(*machine, &bytes[..(*size).min(392)])?;
+        let read = read_prstatus(*machine, &bytes[..(*size).min(392)]);
+        let status = read.expect(&rt, "a descriptor");
         assert!(rt; status.pid == 0x1111_1010);
-        let registers = in_order(rt.alloc(), &status.registers)?;
+        let registers = in_order(rt.alloc(), &status.registers).expect(&rt, "memory");
         for (number, value) in *expected {
             assert!(rt; registers.get(*number).copied() == Some(*value), "{number}");
         }
     }
-    Ok(())
 }
 
 // Sizes that no descriptor on a machine has.
@@ -78,17 +77,16 @@ static OTHER_SIZES: [(Machine, usize); 5] = [
 ];
 
 #[test]
-fn other_sizes(rt: HostRuntime) -> Result<(), Fail> {
+fn other_sizes(rt: HostRuntime) {
     let bytes = descriptor();
     for (machine, size) in &OTHER_SIZES {
         let refused = read_prstatus(*machine, &bytes[..(*size).min(392)]).err();
         assert!(rt; refused == Some(DescriptorError::PrstatusSize), "{size}");
     }
-    let masks = read_pac_mask(&bytes[..16])?;
+    let masks = read_pac_mask(&bytes[..16]).expect(&rt, "masks");
     assert!(rt; masks.data_mask == 0x0303_0202_0101_0000);
     assert!(rt; masks.instruction_mask == 0x0707_0606_0505_0404);
     assert!(rt; read_pac_mask(&bytes[..15]) == Err(DescriptorError::PacMaskSize));
-    Ok(())
 }
 
 // AT_PAGESZ 4096, AT_ENTRY 0x55, AT_PAGESZ 1, AT_NULL, AT_UID 7, and the half of an entry.
@@ -186,10 +184,10 @@ fn expect_files(
     descriptor: &[u8],
     expected: &[MappedFile<'static>],
     error: Option<DescriptorError>,
-) -> Result<(), Fail> {
-    let mut files = MappedFiles::new(descriptor)?;
+) {
+    let mut files = MappedFiles::new(descriptor).expect(rt, "a table");
     for file in expected {
-        assert!(rt; files.next()? == Some(*file));
+        assert!(rt; files.next() == Ok(Some(*file)));
     }
     for _ in 0..2 {
         match files.next() {
@@ -197,16 +195,15 @@ fn expect_files(
             Err(found) => assert!(rt; error == Some(found)),
         }
     }
-    Ok(())
 }
 
 #[test]
-fn mapped_files(rt: HostRuntime) -> Result<(), Fail> {
+fn mapped_files(rt: HostRuntime) {
     for (size, (first, second), files, error) in &TABLES {
         let mut bytes = FILES;
         bytes[38] = *first;
         bytes[62] = *second;
-        expect_files(&rt, &bytes[..(*size).min(69)], files, *error)?;
+        expect_files(&rt, &bytes[..(*size).min(69)], files, *error);
     }
     for size in 0..64 {
         let found = MappedFiles::new(&FILES[..size]).err();
@@ -215,5 +212,4 @@ fn mapped_files(rt: HostRuntime) -> Result<(), Fail> {
             "{size}"
         );
     }
-    Ok(())
 }

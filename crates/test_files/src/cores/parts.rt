@@ -5,36 +5,42 @@ use crate::cores::listed::Listed;
 use crate::cores::real_cores::{AARCH64, X86_64};
 use core_files::{CoreError, CoreFile, SegmentBytes};
 use elf_files::{ElfError, ElfFile};
-use std::alloc::Global;
+use std::alloc::{AllocError, Global};
 use std::process::Abort;
-use std::test::Fail;
 
-// The bytes of a segment in the file, in blocks of a size, without some of the last.
-fn segment_of(
-    alloc: Global,
-    bytes: &[u8],
-    block_size: usize,
-    lost: usize,
-) -> Result<SegmentBytes, Fail> {
-    let mut segment = SegmentBytes::new(alloc);
-    for block in bytes[..bytes.len().saturating_sub(lost)].chunks(block_size.max(1)) {
-        segment.push(block)?;
+// The bytes of a segment, if there are such.
+fn bytes_of<'a>(elf: &ElfFile<'a>, index: u32) -> &'a [u8] {
+    if elf.segment_count() <= index {
+        return &[];
     }
-    Ok(segment)
+    match elf.segment(index) {
+        Ok(segment) => elf.segment_bytes(&segment).unwrap_or(&[]),
+        Err(_) => &[],
+    }
 }
 
-// The bytes of all segments of a core, without the last one of the segment with an index.
+// These bytes in blocks of a size.
+fn part_of(alloc: Global, bytes: &[u8], block_size: usize) -> Result<SegmentBytes, AllocError> {
+    let mut part = SegmentBytes::new(alloc);
+    for block in bytes.chunks(block_size.max(1)) {
+        part.push(block)?;
+    }
+    Ok(part)
+}
+
+// The bytes of all segments of a core, in blocks of a size, without the last one of the segment with an index.
 fn parts_of(
     alloc: Global,
     elf: &ElfFile<'_>,
     block_size: usize,
     shorter: Option<u32>,
-) -> Result<Vec<SegmentBytes>, Fail> {
+) -> Result<Vec<SegmentBytes>, AllocError> {
     let mut parts = Vec::new(alloc);
     for index in 0..elf.segment_count() {
-        let bytes = elf.segment_bytes(&elf.segment(index)?)?;
+        let bytes = bytes_of(elf, index);
         let lost = usize::from(shorter == Some(index));
-        parts.push(segment_of(alloc, bytes, block_size, lost)?)?;
+        let left = bytes.len().saturating_sub(lost);
+        parts.push(part_of(alloc, &bytes[..left], block_size)?)?;
     }
     Ok(parts)
 }
@@ -45,20 +51,14 @@ fn headers_of<'a>(elf: &ElfFile<'a>) -> &'a [u8] {
 }
 
 // A core says in parts what it says as a whole.
-fn expect_same(
-    rt: &impl Abort,
-    alloc: Global,
-    listed: &Listed,
-    block_size: usize,
-) -> Result<(), Fail> {
-    let elf = ElfFile::parse(listed.bytes)?;
-    let whole = CoreFile::parse(alloc, listed.bytes)?;
-    let parts = parts_of(alloc, &elf, block_size, None)?;
-    let core = CoreFile::parse_in_parts(alloc, headers_of(&elf), &parts)?;
-    assert!(rt; !core.is_cut_off());
-    assert!(rt; core.machine() == whole.machine());
+fn expect_same(rt: &impl Abort, alloc: Global, listed: &Listed, block_size: usize) {
+    let elf = ElfFile::parse(listed.bytes).expect(rt, "a file");
+    let whole = CoreFile::parse(alloc, listed.bytes).expect(rt, "a core");
+    let parts = parts_of(alloc, &elf, block_size, None).expect(rt, "parts");
+    let core = CoreFile::parse_in_parts(alloc, headers_of(&elf), &parts).expect(rt, "a core");
+    assert!(rt; !core.is_cut_off() && core.machine() == whole.machine());
     assert!(rt; core.auxiliary(33) == whole.auxiliary(33));
-    expect_notes(rt, alloc, &core, listed)?;
+    expect_notes(rt, alloc, &core, listed);
     assert!(rt; core.segments().len() == whole.segments().len());
     let memory = core.memory(&[]);
     let expected = whole.memory(&[]);
@@ -69,43 +69,42 @@ fn expect_same(
             assert!(rt; memory.word(address) == expected.word(address));
         }
     }
-    Ok(())
 }
 
 #[test]
-fn in_blocks(rt: HostRuntime) -> Result<(), Fail> {
+fn in_blocks(rt: HostRuntime) {
     for listed in [&X86_64, &AARCH64] {
         for block_size in [1, 8, 4096] {
-            expect_same(&rt, rt.alloc(), listed, block_size)?;
+            expect_same(&rt, rt.alloc(), listed, block_size);
         }
     }
-    Ok(())
 }
 
 #[test]
-fn parts_that_are_cut_off(rt: HostRuntime) -> Result<(), Fail> {
-    let elf = ElfFile::parse(X86_64.bytes)?;
+fn parts_that_are_cut_off(rt: HostRuntime) {
+    let elf = ElfFile::parse(X86_64.bytes).expect(&rt, "a file");
     let head = headers_of(&elf);
-    for shorter in 1..elf.segment_count() {
-        let parts = parts_of(rt.alloc(), &elf, 8, Some(shorter))?;
-        let core = CoreFile::parse_in_parts(rt.alloc(), head, &parts)?;
-        assert!(rt; core.is_cut_off());
+    for shorter in 0..elf.segment_count() {
+        let parts = parts_of(rt.alloc(), &elf, 8, Some(shorter)).expect(&rt, "parts");
+        match CoreFile::parse_in_parts(rt.alloc(), head, &parts) {
+            Ok(core) => assert!(rt; shorter != 0 && core.is_cut_off()),
+            // Notes have to be whole.
+            Err(error) => {
+                let is_cut_off = matches!(error, CoreError::Elf(ElfError::Truncated { .. }));
+                assert!(rt; shorter == 0 && is_cut_off, "{error:?}");
+            }
+        }
     }
-    // Notes have to be whole.
-    let parts = parts_of(rt.alloc(), &elf, 8, Some(0))?;
-    let cut = refusal(rt.alloc(), head, Some(&parts));
-    assert!(rt; matches!(cut, Some(CoreError::Elf(ElfError::Truncated { .. }))));
-    Ok(())
 }
 
 #[test]
-fn parts_that_are_not_those_of_the_core(rt: HostRuntime) -> Result<(), Fail> {
-    let elf = ElfFile::parse(X86_64.bytes)?;
+fn parts_that_are_not_those_of_the_core(rt: HostRuntime) {
+    let elf = ElfFile::parse(X86_64.bytes).expect(&rt, "a file");
     let head = headers_of(&elf);
     assert!(rt; head.len() > 64);
-    let first = notes_end(&elf)?;
-    let truncated = Some(CoreError::Elf(ElfError::Truncated { offset: first }));
-    let mut parts = parts_of(rt.alloc(), &elf, 4096, None)?;
+    let offset = notes_end(&elf);
+    let truncated = Some(CoreError::Elf(ElfError::Truncated { offset }));
+    let mut parts = parts_of(rt.alloc(), &elf, 4096, None).expect(&rt, "parts");
     // The headers are cut off.
     let cut = refusal(rt.alloc(), &head[..head.len() - 1], Some(&parts));
     assert!(rt; cut == Some(CoreError::Elf(ElfError::Truncated { offset: 64 })));
@@ -113,8 +112,7 @@ fn parts_that_are_not_those_of_the_core(rt: HostRuntime) -> Result<(), Fail> {
     assert!(rt; refusal(rt.alloc(), head, Some(&[])) == truncated);
     // Each has a byte more than its program header says.
     for part in &mut parts {
-        part.push(&[0])?;
+        part.push(&[0]).expect(&rt, "memory");
     }
     assert!(rt; refusal(rt.alloc(), head, Some(&parts)) == truncated);
-    Ok(())
 }

@@ -3,36 +3,12 @@
 use core_files::{ThreadRegisters, UserRegsAarch64, UserRegsX86_64};
 use std::alloc::{AllocError, Global};
 
-fn of_x86_64(regs: &UserRegsX86_64) -> [u64; 27] {
-    [
-        regs.r15,
-        regs.r14,
-        regs.r13,
-        regs.r12,
-        regs.rbp,
-        regs.rbx,
-        regs.r11,
-        regs.r10,
-        regs.r9,
-        regs.r8,
-        regs.rax,
-        regs.rcx,
-        regs.rdx,
-        regs.rsi,
-        regs.rdi,
-        regs.orig_rax,
-        regs.rip,
-        regs.cs,
-        regs.eflags,
-        regs.rsp,
-        regs.ss,
-        regs.fs_base,
-        regs.gs_base,
-        regs.ds,
-        regs.es,
-        regs.fs,
-        regs.gs,
-    ]
+fn push_x86_64(values: &mut Vec<u64>, regs: &UserRegsX86_64) -> Result<(), AllocError> {
+    values.extend_from_slice(&[regs.r15, regs.r14, regs.r13, regs.r12, regs.rbp, regs.rbx])?;
+    values.extend_from_slice(&[regs.r11, regs.r10, regs.r9, regs.r8, regs.rax, regs.rcx])?;
+    values.extend_from_slice(&[regs.rdx, regs.rsi, regs.rdi, regs.orig_rax, regs.rip])?;
+    values.extend_from_slice(&[regs.cs, regs.eflags, regs.rsp, regs.ss, regs.fs_base])?;
+    values.extend_from_slice(&[regs.gs_base, regs.ds, regs.es, regs.fs, regs.gs])
 }
 
 fn push_aarch64(values: &mut Vec<u64>, regs: &UserRegsAarch64) -> Result<(), AllocError> {
@@ -44,7 +20,7 @@ fn push_aarch64(values: &mut Vec<u64>, regs: &UserRegsAarch64) -> Result<(), All
 pub fn in_order(alloc: Global, registers: &ThreadRegisters) -> Result<Vec<u64>, AllocError> {
     let mut values = Vec::new(alloc);
     match registers {
-        ThreadRegisters::X86_64(regs) => values.extend_from_slice(&of_x86_64(regs))?,
+        ThreadRegisters::X86_64(regs) => push_x86_64(&mut values, regs)?,
         ThreadRegisters::Aarch64(regs) => push_aarch64(&mut values, regs)?,
     }
     Ok(values)

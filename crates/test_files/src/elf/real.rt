@@ -4,7 +4,6 @@ use crate::elf::real_files::{AARCH64, FileSeen, STRIPPED, SectionSeen, X86_64};
 use crate::elf::worked::{WORKED, WORKED_SEEN};
 use elf_files::{ElfFile, Section, SectionKind, Segment, SegmentKind};
 use std::process::Abort;
-use std::test::Fail;
 
 // Names that no section has.
 static ABSENT: [&[u8]; 4] = [b".none", b".sym", b"symtab", b".symtab\0"];
@@ -25,66 +24,50 @@ fn section_of(seen: &SectionSeen, name_offset: u32) -> Section {
     }
 }
 
-fn check_sections(rt: &impl Abort, file: &ElfFile<'_>, seen: &FileSeen) -> Result<(), Fail> {
+fn check_sections(rt: &impl Abort, file: &ElfFile<'_>, seen: &FileSeen) {
     assert!(rt; file.section_count() == seen.sections.len() as u64);
     for (index, expected) in seen.sections.iter().enumerate() {
         let index = index as u64;
         assert!(rt; index < file.section_count());
-        let section = file.section(index)?;
+        let section = file.section(index).expect(rt, "a section");
         assert!(rt;
             section == section_of(expected, section.name_offset),
             "{index}"
         );
-        assert!(rt; file.section_name(&section)? == expected.name, "{index}");
+        assert!(rt; file.section_name(&section) == Ok(expected.name), "{index}");
         assert!(rt;
-            file.section_named(expected.name)? == Some(section),
+            file.section_named(expected.name) == Ok(Some(section)),
             "{index}"
         );
     }
     for name in ABSENT {
-        assert!(rt; file.section_named(name)? == None);
+        assert!(rt; file.section_named(name) == Ok(None));
     }
-    Ok(())
 }
 
-fn check_segments(rt: &impl Abort, file: &ElfFile<'_>, seen: &FileSeen) -> Result<(), Fail> {
+fn check_segments(rt: &impl Abort, file: &ElfFile<'_>, seen: &FileSeen) {
     assert!(rt; u64::from(file.segment_count()) == seen.segments.len() as u64);
     let mut index = 0;
     for expected in seen.segments {
         assert!(rt; index < file.segment_count());
-        assert!(rt; file.segment(index)? == *expected, "{index}");
+        assert!(rt; file.segment(index) == Ok(*expected), "{index}");
         index += 1;
     }
-    Ok(())
-}
-
-fn check_functions(rt: &impl Abort, file: &ElfFile<'_>, seen: &FileSeen) -> Result<(), Fail> {
-    for (address, function) in seen.functions {
-        assert!(rt;
-            file.symbol_for_address(*address)? == *function,
-            "{address:x}"
-        );
-    }
-    Ok(())
-}
-
-fn check(rt: &impl Abort, seen: &FileSeen) -> Result<(), Fail> {
-    let file = ElfFile::parse(seen.bytes)?;
-    assert!(rt; file.machine() == seen.machine);
-    assert!(rt; file.kind() == seen.kind);
-    assert!(rt; file.entry() == seen.entry);
-    check_sections(rt, &file, seen)?;
-    check_segments(rt, &file, seen)?;
-    assert!(rt; file.build_id()? == Some(seen.build_id));
-    check_functions(rt, &file, seen)
 }
 
 #[test]
-fn of_all_files(rt: HostRuntime) -> Result<(), Fail> {
+fn of_all_files(rt: HostRuntime) {
     for seen in [&WORKED_SEEN, &X86_64, &AARCH64, &STRIPPED] {
-        check(&rt, seen)?;
+        let file = ElfFile::parse(seen.bytes).expect(&rt, "a file");
+        assert!(rt; file.machine() == seen.machine && file.kind() == seen.kind);
+        assert!(rt; file.entry() == seen.entry && file.build_id() == Ok(Some(seen.build_id)));
+        check_sections(&rt, &file, seen);
+        check_segments(&rt, &file, seen);
+        for (address, function) in seen.functions {
+            let found = file.symbol_for_address(*address);
+            assert!(rt; found == Ok(*function), "{address:x}");
+        }
     }
-    Ok(())
 }
 
 const NOTES: Segment = Segment {
@@ -111,15 +94,14 @@ const SYMBOLS: Section = Section {
 };
 
 #[test]
-fn bytes(rt: HostRuntime) -> Result<(), Fail> {
-    let file = ElfFile::parse(&WORKED)?;
-    assert!(rt; file.segment_bytes(&NOTES)? == &WORKED[0x208..0x21c]);
-    assert!(rt; file.section_named(b".symtab")? == Some(SYMBOLS));
-    assert!(rt; file.section_bytes(&SYMBOLS)? == &WORKED[0x1d8..0x208]);
+fn bytes(rt: HostRuntime) {
+    let file = ElfFile::parse(&WORKED).expect(&rt, "a file");
+    assert!(rt; file.segment_bytes(&NOTES) == Ok(&WORKED[0x208..0x21c]));
+    assert!(rt; file.section_named(b".symtab") == Ok(Some(SYMBOLS)));
+    assert!(rt; file.section_bytes(&SYMBOLS) == Ok(&WORKED[0x1d8..0x208]));
     let none = Section {
         kind: SectionKind::NoBits,
         ..SYMBOLS
     };
-    assert!(rt; file.section_bytes(&none)?.is_empty());
-    Ok(())
+    assert!(rt; file.section_bytes(&none) == Ok(b"".as_slice()));
 }
