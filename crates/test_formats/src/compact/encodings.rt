@@ -54,8 +54,8 @@ macro_rules! words_with_bp {
     };
 }
 
-/// Encodings of x86_64, the number in the code from its fourth byte on if there is code, and what the step of a later frame in the middle of
-/// such a function says.
+/// Encodings of x86_64, the number in the code from its fourth byte on if there is code, and what the step of a later frame in the middle
+/// of such a function says.
 static LATER: [(u32, Option<u32>, Answer); 27] = [
     (0x0100_0000, None, FRAME),
     (0xf101_0001, None, FRAME),

@@ -32,7 +32,7 @@ fn word_below(end: u64, address: u64) -> Result<u64, ()> {
 
 /// A frame: the address at which a step looks, whether it is the first, and its IP, SP and BP, with the end of what can be read
 /// of the stack.
-#[derive(Debug, Clone, Copy)]
+#[derive(Clone, Copy)]
 pub struct Frame {
     pub address: u32,
     pub is_first: bool,
