@@ -11,7 +11,6 @@ use framehop_rules::SlotCount;
 use framehop_unwinder::{CacheId, Error, FrameAddress, Generations, Module, Session, UnwinderId};
 use std::alloc::{AllocError, Global};
 use std::collections::VecDeque;
-use std::test::Fail;
 
 type Regs = UnwindRegsX86_64;
 
@@ -92,8 +91,8 @@ fn made(session: &Session<Toy>) -> [bool; 5] {
 /// A new unwinder, a new cache, a load, a clone and a step. Where memory is refused for one of them, as
 /// `scripts/refuse-allocations` has it, nothing is done, and it is done when it is asked again.
 #[test]
-fn refused_commands_do_nothing(rt: HostRuntime) -> Result<(), Fail> {
-    let there = module(rt.alloc(), Said::StubRule)?;
+fn refused_commands_do_nothing(rt: HostRuntime) {
+    let there = module(rt.alloc(), Said::StubRule).expect(&rt, "memory");
     let mut session: Session<Toy> = Session::new(rt.alloc(), Generations::new());
     for number in 0..5 {
         let before = made(&session);
@@ -105,5 +104,4 @@ fn refused_commands_do_nothing(rt: HostRuntime) -> Result<(), Fail> {
         let stepped = Shown::Stepped(Ok(Some(0x100300)), 0x18, 0x20);
         assert!(rt; answer == if number == 4 { stepped } else { Shown::Added });
     }
-    Ok(())
 }

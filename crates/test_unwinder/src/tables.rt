@@ -9,7 +9,7 @@ use std::alloc::{AllocError, Global};
 use std::marker::PhantomData;
 
 /// What a row says.
-#[derive(Clone, Copy, Debug, PartialEq, Eq)]
+#[derive(Clone, Copy)]
 pub enum Said {
     /// The rule for stubs: the word at the stack pointer is the return address, or the link register.
     StubRule,
@@ -24,7 +24,7 @@ pub enum Said {
 }
 
 /// What is said of an address.
-#[derive(Clone, Copy, Debug, PartialEq, Eq)]
+#[derive(Clone, Copy)]
 pub struct Row {
     pub relative_address: u32,
     pub said: Said,

@@ -6,8 +6,7 @@ use framehop_registers::x86_64::UnwindRegsX86_64;
 use framehop_unwinder::{
     Cache, CacheId, CacheStats, Error, FrameAddress, Session, StackWalk, Unwinder, UnwinderId,
 };
-use std::alloc::Global;
-use std::test::Fail;
+use std::alloc::{AllocError, Global};
 
 type Regs = UnwindRegsX86_64;
 
@@ -91,7 +90,7 @@ static WALKS: [Walk; 3] = [
 ];
 
 // So many moves by an unwinder's iterator, of the second of two walks through one cache; and what this counted of both.
-fn by_unwinder(alloc: Global, walk: &Walk) -> Result<(Vec<Moved>, CacheStats), Fail> {
+fn by_unwinder(alloc: Global, walk: &Walk) -> Result<(Vec<Moved>, CacheStats), AllocError> {
     let unwinder = unwinder_of(alloc, walk.said)?;
     let mut cache = Cache::new(alloc, ())?;
     let mut moves = Vec::new(alloc);
@@ -108,14 +107,14 @@ fn by_unwinder(alloc: Global, walk: &Walk) -> Result<(Vec<Moved>, CacheStats), F
 }
 
 // The same by a session's iterator.
-fn by_session(alloc: Global, walk: &Walk) -> Result<(Vec<Moved>, CacheStats), Fail> {
+fn by_session(alloc: Global, walk: &Walk) -> Result<(Vec<Moved>, CacheStats), AllocError> {
     let mut session = session_of(alloc, walk.said)?;
     let (unwinder, cache) = (UnwinderId::numbered(0), CacheId::numbered(0));
     let mut moves = Vec::new(alloc);
     for _ in 0..2 {
         moves.clear();
         if !session.has(unwinder, cache) {
-            return Err(Fail::new("no unwinder"));
+            return Err(AllocError);
         }
         let mut read_stack = word_at;
         let regs = UnwindRegsX86_64::new(walk.pc, 0x10, walk.bp);
@@ -124,38 +123,39 @@ fn by_session(alloc: Global, walk: &Walk) -> Result<(Vec<Moved>, CacheStats), Fa
             moves.push(shown(frames.next()))?;
         }
     }
-    Ok((moves, session.stats(cache)?))
+    match session.stats(cache) {
+        Ok(stats) => Ok((moves, stats)),
+        Err(_) => Err(AllocError),
+    }
 }
 
 /// The first walk keeps the rules that the second finds, of the whole stack.
 #[test]
-fn walks_by_iterators(rt: HostRuntime) -> Result<(), Fail> {
+fn walks_by_iterators(rt: HostRuntime) {
     for walk in &WALKS {
-        let (moves, stats) = by_unwinder(rt.alloc(), walk)?;
+        let (moves, stats) = by_unwinder(rt.alloc(), walk).expect(&rt, "memory");
         assert!(rt; moves.as_slice() == walk.by_unwinder, "{moves:?}");
-        let (others, counts) = by_session(rt.alloc(), walk)?;
+        let (others, counts) = by_session(rt.alloc(), walk).expect(&rt, "memory");
         assert!(rt; others.as_slice() == walk.by_session, "{others:?}");
         let is_whole = walk.by_session.len() == WHOLE.len();
         assert!(rt; !is_whole || stats == counts && stats.hits() == 4 && stats.misses() == 4);
     }
-    Ok(())
 }
 
 /// The session can be used again afterwards.
 #[test]
-fn addresses_of_a_sessions_frames(rt: HostRuntime) -> Result<(), Fail> {
-    let mut session = session_of(rt.alloc(), Said::StubRule)?;
+fn addresses_of_a_sessions_frames(rt: HostRuntime) {
+    let mut session = session_of(rt.alloc(), Said::StubRule).expect(&rt, "memory");
     let (unwinder, cache) = (UnwinderId::numbered(0), CacheId::numbered(0));
     assert!(rt; session.has(unwinder, cache));
     let mut read_stack = word_at;
     let regs = UnwindRegsX86_64::new(0x101000, 0x10, 0x20);
     let mut frames = session.iter_frames(unwinder, cache, 0x101000, regs, &mut read_stack);
-    let first_two = addresses_of(rt.alloc(), &mut frames, 2)?;
-    let others = addresses_of(rt.alloc(), &mut frames, 9)?;
+    let first_two = addresses_of(rt.alloc(), &mut frames, 2).expect(&rt, "memory");
+    let others = addresses_of(rt.alloc(), &mut frames, 9).expect(&rt, "memory");
     assert!(rt; first_two.as_slice() == [0x101000, 0x100300].as_slice());
     assert!(rt; others.as_slice() == [0x100200, 0x100100].as_slice());
     assert!(rt; session.has(unwinder, cache));
-    Ok(())
 }
 
 /// Where a walk is that was not begun, or is at a frame.
@@ -272,29 +272,28 @@ fn next(session: &mut Session<Toy>, walk: &mut StackWalk<Regs>) -> Option<Step> 
 }
 
 #[test]
-fn walks_by_moves(rt: HostRuntime) -> Result<(), Fail> {
+fn walks_by_moves(rt: HostRuntime) {
     for (said, place, registers, moves, after, (hits, empty, modules)) in &MOVES {
-        let mut session = session_of(rt.alloc(), *said)?;
+        let mut session = session_of(rt.alloc(), *said).expect(&rt, "memory");
         let mut walk = walk_at(*place, *registers);
         for wanted in *moves {
             assert!(rt; next(&mut session, &mut walk) == Some(*wanted));
         }
-        assert!(rt; session.unload(UnwinderId::numbered(0), 0x100000)?.is_ok());
+        assert!(rt; session.unload(UnwinderId::numbered(0), 0x100000) == Ok(Ok(())));
         assert!(rt; next(&mut session, &mut walk) == Some(*after));
-        let stats = session.stats(CacheId::numbered(0))?;
+        let stats = session.stats(CacheId::numbered(0)).expect(&rt, "a cache");
         assert!(rt; stats.hits() == *hits && stats.miss_wrong_address_count == 0);
         assert!(rt;
             (stats.miss_empty_slot_count, stats.miss_wrong_modules_count) == (*empty, *modules)
         );
     }
-    Ok(())
 }
 
 /// A step whose rule is in the cache reads the words of that rule, each once.
 #[test]
-fn hits_read_the_words_of_their_rule(rt: HostRuntime) -> Result<(), Fail> {
-    let unwinder = unwinder_of(rt.alloc(), Said::StubRule)?;
-    let mut cache = Cache::new(rt.alloc(), ())?;
+fn hits_read_the_words_of_their_rule(rt: HostRuntime) {
+    let unwinder = unwinder_of(rt.alloc(), Said::StubRule).expect(&rt, "memory");
+    let mut cache = Cache::new(rt.alloc(), ()).expect(&rt, "memory");
     let frame = FrameAddress::from_instruction_pointer(0x101000);
     for hits in 0..3 {
         let mut read = (0u64, 0);
@@ -307,5 +306,4 @@ fn hits_read_the_words_of_their_rule(rt: HostRuntime) -> Result<(), Fail> {
         assert!(rt; answer == Ok(Some(0x100300)) && read == (1, 0x10));
         assert!(rt; cache.stats().hits() == hits);
     }
-    Ok(())
 }

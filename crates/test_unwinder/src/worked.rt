@@ -3,7 +3,6 @@ use crate::tables::{Row, Said, Tables};
 use framehop_rules::x86_64::ArchX86_64;
 use framehop_unwinder::{Generations, Module, Session, Unwinder, UnwinderInternal};
 use std::alloc::{AllocError, Global};
-use std::test::Fail;
 
 pub type Toy = Tables<ArchX86_64>;
 
@@ -32,29 +31,29 @@ pub fn module(alloc: Global, said: Said) -> Result<Module<Vec<Row>>, AllocError>
 }
 
 /// An unwinder that has this module.
-pub fn unwinder_of(alloc: Global, said: Said) -> Result<UnwinderInternal<Toy>, Fail> {
+pub fn unwinder_of(alloc: Global, said: Said) -> Result<UnwinderInternal<Toy>, AllocError> {
     let mut generations = Generations::new();
     let Ok(mut unwinder) = UnwinderInternal::<Toy>::new(alloc, &mut generations) else {
-        return Err(Fail::new("OutOfMemory"));
+        return Err(AllocError);
     };
     if unwinder
         .add_module(&mut generations, module(alloc, said)?)
         .is_err()
     {
-        return Err(Fail::new("OutOfMemory"));
+        return Err(AllocError);
     }
     Ok(unwinder)
 }
 
 /// A session of one unwinder, which has this module, and of one cache.
-pub fn session_of(alloc: Global, said: Said) -> Result<Session<Toy>, Fail> {
+pub fn session_of(alloc: Global, said: Said) -> Result<Session<Toy>, AllocError> {
     let mut session: Session<Toy> = Session::new(alloc, Generations::new());
     session.add_cache(alloc)?;
     let Ok(unwinder) = session.add_unwinder(alloc) else {
-        return Err(Fail::new("OutOfMemory"));
+        return Err(AllocError);
     };
-    if session.load(unwinder, module(alloc, said)?)?.is_err() {
-        return Err(Fail::new("OutOfMemory"));
+    match session.load(unwinder, module(alloc, said)?) {
+        Ok(Ok(())) => Ok(session),
+        _ => Err(AllocError),
     }
-    Ok(session)
 }
