@@ -41,13 +41,6 @@ fn compare_sections(rt: &impl Abort, alloc: Global, texts: &str, count: usize) -
     Ok(())
 }
 
-#[test]
-fn sections(rt: HostRuntime) -> Outcome {
-    compare_sections(&rt, rt.alloc(), worked::SECTIONS, 10)?;
-    compare_sections(&rt, rt.alloc(), augmentations::SECTIONS, 87)?;
-    compare_sections(&rt, rt.alloc(), real_sections::SECTIONS, 6)
-}
-
 // The offset of the CIE that is read at an offset, or the error.
 fn cie_at<R: Reader, Section: UnwindSection<R>>(
     section: &Section,
@@ -147,7 +140,10 @@ impl<H: Abort> ReaderTest<H> for CutFde {
 }
 
 #[test]
-fn entries_at_offsets(rt: HostRuntime) -> Outcome {
+fn entries_of_sections_and_at_offsets(rt: HostRuntime) -> Outcome {
+    compare_sections(&rt, rt.alloc(), worked::SECTIONS, 10)?;
+    compare_sections(&rt, rt.alloc(), augmentations::SECTIONS, 87)?;
+    compare_sections(&rt, rt.alloc(), real_sections::SECTIONS, 6)?;
     over_each_reader(&rt, rt.alloc(), &Offsets, &WORKED, RunTimeEndian::Little)?;
     over_each_reader(&rt, rt.alloc(), &WorkedFde, &WORKED, RunTimeEndian::Little)?;
     let bytes = [0, 0, 0, 4, 0xba, 0xd1, 0xba, 0xd2];

@@ -32,7 +32,7 @@ static SIGNED_TWICE: [u8; 52] = [
     0, 0, 0, 0, 0x10, 0, 0, 0, 0, 0, 0, 0x10, 0, 0, 0, 0, 0, 0, 0, 0x2d, 0x2d, 0, 0, 0, 0, 0, 0,
 ];
 
-#[derive(Debug, Clone, Copy)]
+#[derive(Clone, Copy)]
 enum Which {
     Worked,
     Refused,
@@ -149,7 +149,7 @@ fn rows_for_addresses(rt: HostRuntime) -> Result<(), Fail> {
         let mut section = EhFrame::new(which.bytes(), LittleEndian);
         section.set_vendor(*vendor);
         let line = line_in(rt.alloc(), &section, &mut context, *address)?;
-        assert!(rt; line.as_str() == *wanted, "{which:?} {address:x}: {line}");
+        assert!(rt; line.as_str() == *wanted, "{address:x}: {line}");
     }
     Ok(())
 }

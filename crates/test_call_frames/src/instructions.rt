@@ -14,7 +14,7 @@ use test_readers::{Outcome, ReaderTest, over_each_reader};
 const MOST: usize = 10;
 
 // How instructions are read: whose extensions, how addresses are encoded, and where the section starts.
-#[derive(Debug, Clone, Copy)]
+#[derive(Clone, Copy)]
 struct Reading {
     vendor: Vendor,
     encoding: Option<DwEhPe>,
@@ -123,13 +123,13 @@ fn compare(rt: &impl Abort, alloc: Global, bytes: &[u8], wanted: &str) -> Outcom
     Ok(())
 }
 
-#[test]
-fn each_first_byte(rt: HostRuntime) -> Outcome {
+// Compares the instruction that each first byte begins.
+fn compare_all(rt: &impl Abort, alloc: Global) -> Outcome {
     let mut count = 0u32;
     for line in INSTRUCTIONS.lines() {
-        let (bytes, wanted) = line.split_once(' ').expect(&rt, "an instruction");
-        let bytes = hex::decode(rt.alloc(), bytes.as_bytes())?;
-        compare(&rt, rt.alloc(), &bytes, wanted)?;
+        let (bytes, wanted) = line.split_once(' ').expect(rt, "an instruction");
+        let bytes = hex::decode(alloc, bytes.as_bytes())?;
+        compare(rt, alloc, &bytes, wanted)?;
         count = count.wrapping_add(1);
     }
     assert!(rt; count == 256);
@@ -257,7 +257,8 @@ static PROGRAMS: [Row; 12] = [
 ];
 
 #[test]
-fn programs(rt: HostRuntime) -> Outcome {
+fn instructions_and_programs(rt: HostRuntime) -> Outcome {
+    compare_all(&rt, rt.alloc())?;
     for (encoding, start, bytes, wanted) in &PROGRAMS {
         let reading = Reading {
             vendor: Vendor::Default,

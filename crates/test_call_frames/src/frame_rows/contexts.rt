@@ -56,7 +56,7 @@ impl<T: ReaderOffset> UnwindContextStorage<T> for Growing {
 }
 
 // What a program does to its context: the effects of its instructions, and other calls.
-#[derive(Debug, Clone, Copy)]
+#[derive(Clone, Copy)]
 enum Step {
     Clear,
     /// Keeps the rules of the CIE.
@@ -107,7 +107,7 @@ fn follow<S: UnwindContextStorage<u64>>(
             Ok(()) => line_of(alloc, context.row())?,
             Err(error) => format!(in alloc; "{error:?}")?,
         };
-        assert!(rt; line.as_str() == *wanted, "{step:?}: {line}");
+        assert!(rt; line.as_str() == *wanted, "{wanted}: {line}");
     }
     Ok(())
 }
@@ -327,22 +327,6 @@ static TWO_CIES: &[Row] = &[
     (Step::By(Effect::RestoreRule(Register(1))), "0..0 r0,0 0=c8"),
 ];
 
-#[test]
-fn programs(rt: HostRuntime) -> Result<(), Fail> {
-    for rows in [
-        PARTS,
-        REMEMBERED,
-        SIGN_STATES,
-        CLEARED,
-        SAVED_BETWEEN,
-        TWO_CIES,
-    ] {
-        follow::<StoreOnHeap>(&rt, rt.alloc(), rows)?;
-    }
-    follow::<Growing>(&rt, rt.alloc(), PARTS)?;
-    follow::<One>(&rt, rt.alloc(), FULL)
-}
-
 // A row has the addresses from its first up to its end.
 fn has_addresses<S: UnwindContextStorage<u64>>(rt: &impl Abort, alloc: Global) -> Result<(), Fail> {
     let mut context: UnwindContext<u64, S> = UnwindContext::new_in(alloc)?;
@@ -413,6 +397,26 @@ fn equals_as_map<S: UnwindContextStorage<u64>>(rt: &impl Abort, alloc: Global) -
     Ok(())
 }
 
+#[test]
+fn rows_of_contexts(rt: HostRuntime) -> Result<(), Fail> {
+    for rows in [
+        PARTS,
+        REMEMBERED,
+        SIGN_STATES,
+        CLEARED,
+        SAVED_BETWEEN,
+        TWO_CIES,
+    ] {
+        follow::<StoreOnHeap>(&rt, rt.alloc(), rows)?;
+    }
+    follow::<Growing>(&rt, rt.alloc(), PARTS)?;
+    follow::<One>(&rt, rt.alloc(), FULL)?;
+    has_addresses::<One>(&rt, rt.alloc())?;
+    has_192_rules::<StoreOnHeap>(&rt, rt.alloc())?;
+    wants_memory::<Growing>(&rt, rt.alloc())?;
+    equals_as_map::<StoreOnHeap>(&rt, rt.alloc())
+}
+
 // Compares the text of a value.
 fn shows<T: Debug>(rt: &impl Abort, alloc: Global, value: &T, want: &str) -> Result<(), Fail> {
     let text = format!(in alloc; "{value:?}")?;
@@ -432,15 +436,6 @@ fn shows_row(rt: &impl Abort, alloc: Global) -> Result<(), Fail> {
          cfa: RegisterAndOffset { register: Register(0), offset: 0 }, registers: \
          RegisterRuleMap { rules: [RuledRegister { register: Register(6), rule: Offset(-16) }], .. } }",
     )
-}
-
-#[test]
-fn rows_of_contexts(rt: HostRuntime) -> Result<(), Fail> {
-    has_addresses::<One>(&rt, rt.alloc())?;
-    has_192_rules::<StoreOnHeap>(&rt, rt.alloc())?;
-    wants_memory::<Growing>(&rt, rt.alloc())?;
-    equals_as_map::<StoreOnHeap>(&rt, rt.alloc())?;
-    shows_row(&rt, rt.alloc())
 }
 
 static RULES: [(RegisterRule<u64>, &str); 9] = [
@@ -463,6 +458,7 @@ static RULES: [(RegisterRule<u64>, &str); 9] = [
 
 #[test]
 fn texts(rt: HostRuntime) -> Result<(), Fail> {
+    shows_row(&rt, rt.alloc())?;
     for (rule, want) in &RULES {
         shows(&rt, rt.alloc(), rule, want)?;
     }

@@ -132,24 +132,6 @@ impl<H: Abort> ReaderTest<H> for EncodingTest {
     }
 }
 
-#[test]
-fn each_encoding_of_pointers(rt: HostRuntime) -> Outcome {
-    let wide = EncodingTest {
-        address_size: 8,
-        outcomes: OUTCOMES_64,
-    };
-    let bytes = [
-        0, 0, 0, 0, 0xfd, 0xff, 0xff, 0xff, 0xff, 0xff, 0xff, 0xff, 0xff, 0x01,
-    ];
-    over_each_reader(&rt, rt.alloc(), &wide, &bytes, RunTimeEndian::Little)?;
-    let narrow = EncodingTest {
-        address_size: 4,
-        outcomes: OUTCOMES_32,
-    };
-    let bytes = [0, 0, 0, 0, 0x9a, 0xff, 0xff, 0x7f, 0x01, 0x02, 0x03, 0x04];
-    over_each_reader(&rt, rt.alloc(), &narrow, &bytes, RunTimeEndian::Little)
-}
-
 /// An encoding, a pointer in it, and a byte that is no encoding.
 #[derive(Clone, Copy)]
 struct PointerTest;
@@ -180,7 +162,21 @@ impl<H: Abort> ReaderTest<H> for PointerTest {
 }
 
 #[test]
-fn pointers_and_what_is_left(rt: HostRuntime) -> Outcome {
+fn pointers_in_each_encoding_and_what_is_left(rt: HostRuntime) -> Outcome {
+    let wide = EncodingTest {
+        address_size: 8,
+        outcomes: OUTCOMES_64,
+    };
+    let bytes = [
+        0, 0, 0, 0, 0xfd, 0xff, 0xff, 0xff, 0xff, 0xff, 0xff, 0xff, 0xff, 0x01,
+    ];
+    over_each_reader(&rt, rt.alloc(), &wide, &bytes, RunTimeEndian::Little)?;
+    let narrow = EncodingTest {
+        address_size: 4,
+        outcomes: OUTCOMES_32,
+    };
+    let bytes = [0, 0, 0, 0, 0x9a, 0xff, 0xff, 0x7f, 0x01, 0x02, 0x03, 0x04];
+    over_each_reader(&rt, rt.alloc(), &narrow, &bytes, RunTimeEndian::Little)?;
     let bytes = [0x1b, 0xf0, 0xff, 0xff, 0xff, 0x05, 0xff];
     over_each_reader(&rt, rt.alloc(), &PointerTest, &bytes, RunTimeEndian::Little)
 }
