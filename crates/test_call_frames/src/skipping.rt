@@ -1,8 +1,10 @@
 //! The FDE for an address, in a section with an FDE that can't be read.
 
 use dwarf_constants::{Error, ReaderOffsetId};
-use dwarf_frame_entries::{BaseAddresses, EhFrame, FrameDescriptionEntry, UnwindSection};
-use dwarf_readers::{EndianSlice, LittleEndian, ReaderOffset};
+use dwarf_frame_entries::{
+    _UnwindSectionPrivate, BaseAddresses, EhFrame, FrameDescriptionEntry, UnwindSection,
+};
+use dwarf_readers::{LittleEndian, Reader, ReaderOffset};
 use test_readers::WORKED;
 
 // The worked section, and before its FDE one that ends after the start of its code.
@@ -40,9 +42,7 @@ static LOOKUPS: [(Which, u64, Result<u64, Error>, Result<u64, Error>); 7] = [
 ];
 
 // The offset of an FDE, or the error.
-fn offset_of(
-    found: Result<FrameDescriptionEntry<EndianSlice<'_, LittleEndian>>, Error>,
-) -> Result<u64, Error> {
+fn offset_of<R: Reader>(found: Result<FrameDescriptionEntry<R>, Error>) -> Result<u64, Error> {
     match found {
         Ok(fde) => Ok(fde.offset().into_u64()),
         Err(error) => Err(error),
@@ -50,34 +50,44 @@ fn offset_of(
 }
 
 // The offset of the FDE for an address in a section, or the error, as `LOOKUPS` has them.
-fn looked_up(bytes: &[u8], address: u64) -> (Result<u64, Error>, Result<u64, Error>) {
-    let section = EhFrame::new(bytes, LittleEndian);
+fn looked_up<R: Reader>(
+    section: &EhFrame<R>,
+    address: u64,
+) -> (Result<u64, Error>, Result<u64, Error>) {
     let bases = BaseAddresses::default();
-    let first = section.fde_for_address(&bases, address, UnwindSection::cie_from_offset);
-    let skipping = section.fde_for_address_skipping(
-        &bases,
-        address,
-        UnwindSection::cie_from_offset,
-    );
+    let endian = section.section().endian();
+    let first = section.fde_for_address(&bases, address, move |s, b, o| {
+        let _endian = endian;
+        s.cie_from_offset(b, o)
+    });
+    let skipping = section.fde_for_address_skipping(&bases, address, move |s, b, o| {
+        let _endian = endian;
+        s.cie_from_offset(b, o)
+    });
     (offset_of(first), offset_of(skipping))
 }
 
+// What is given for an address if memory is wanted for the CIE.
+fn wanting_memory<R: Reader>(section: &EhFrame<R>, address: u64) -> Result<u64, Error> {
+    let bases = BaseAddresses::default();
+    let endian = section.section().endian();
+    offset_of(section.fde_for_address_skipping(&bases, address, move |_s, _b, _o| {
+        let _endian = endian;
+        Err(Error::OutOfMemory)
+    }))
+}
+
+// Want of memory is passed on.
 #[test]
 fn fdes_that_cannot_be_read_are_passed_over(rt: HostRuntime) {
     for &(which, address, first, skipping) in &LOOKUPS {
-        let found = match which {
-            Which::Worked => looked_up(&WORKED, address),
-            Which::Damaged(count) => looked_up(DAMAGED.get(..count).unwrap_or(&DAMAGED), address),
+        let bytes = match which {
+            Which::Worked => WORKED.as_slice(),
+            Which::Damaged(count) => DAMAGED.get(..count).unwrap_or(&DAMAGED),
         };
+        let found = looked_up(&EhFrame::new(bytes, LittleEndian), address);
         assert!(rt; found == (first, skipping), "at {address:x}");
     }
-    // Want of memory is passed on.
-    let section = EhFrame::new(&DAMAGED, LittleEndian);
-    let bases = BaseAddresses::default();
-    let found = section.fde_for_address_skipping(
-        &bases,
-        0x1000,
-        |_s, _b, _o| Err(Error::OutOfMemory),
-    );
-    assert!(rt; offset_of(found) == Err(Error::OutOfMemory));
+    let found = wanting_memory(&EhFrame::new(&DAMAGED, LittleEndian), 0x1000);
+    assert!(rt; found == Err(Error::OutOfMemory));
 }
