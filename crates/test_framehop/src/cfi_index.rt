@@ -3,7 +3,6 @@ use dwarf_frame_entries::BaseAddresses;
 use dwarf_read_core::Error;
 use framehop::{DwarfCfiIndex, DwarfCfiIndexError};
 use std::alloc::{AllocError, Global};
-use std::test::Fail;
 
 const BASE: u64 = 0x40_0000;
 
@@ -98,16 +97,15 @@ static READS: [(u32, u32); 7] = [
 ];
 
 #[test]
-fn look_ups_are_those_of_a_plain_pass_and_read_few_starts(rt: HostRuntime) -> Result<(), Fail> {
+fn look_ups_are_those_of_a_plain_pass_and_read_few_starts(rt: HostRuntime) {
     for &(count, most) in &READS {
-        let starts = scrambled(rt.alloc(), u64::from(count))?;
-        let bytes = section_of(rt.alloc(), &starts)?;
-        let index = index_of(&bytes, rt.alloc(), BASE)?;
+        let starts = scrambled(rt.alloc(), u64::from(count)).expect(&rt, "memory");
+        let bytes = section_of(rt.alloc(), &starts).expect(&rt, "memory");
+        let index = index_of(&bytes, rt.alloc(), BASE).expect(&rt, "an index");
         assert!(rt; differing(&index, &starts) == 0, "of {count} starts");
-        let index = index_of(&bytes, rt.alloc(), BASE - 16)?;
+        let index = index_of(&bytes, rt.alloc(), BASE - 16).expect(&rt, "an index");
         assert!(rt; most_reads(&index, count) == most, "of {count} starts");
     }
-    Ok(())
 }
 
 /// Starts, and how many are left out, as they are below the base or 2^32 bytes or more above it; and relative addresses with the offsets
@@ -130,10 +128,10 @@ static FOUND: [(&[u64], usize, &[(u32, Option<u32>)]); 2] = [
 ];
 
 #[test]
-fn fdes_out_of_range_are_left_out(rt: HostRuntime) -> Result<(), Fail> {
+fn fdes_out_of_range_are_left_out(rt: HostRuntime) {
     for &(starts, left_out, found) in &FOUND {
-        let bytes = section_of(rt.alloc(), starts)?;
-        let index = index_of(&bytes, rt.alloc(), BASE)?;
+        let bytes = section_of(rt.alloc(), starts).expect(&rt, "memory");
+        let index = index_of(&bytes, rt.alloc(), BASE).expect(&rt, "an index");
         assert!(rt; index.left_out() == left_out);
         for &(relative, offset) in found {
             assert!(rt;
@@ -142,7 +140,6 @@ fn fdes_out_of_range_are_left_out(rt: HostRuntime) -> Result<(), Fail> {
             );
         }
     }
-    Ok(())
 }
 
 /// First entries of a section, after their lengths, and the error of one that ends the list. FDEs that can't be read: one without its
@@ -185,24 +182,6 @@ fn section_after(alloc: Global, first: &[u8]) -> Result<Vec<u8>, AllocError> {
     Ok(bytes)
 }
 
-/// FDEs that can't be read are left out, and a fault of the list is returned.
-#[test]
-fn first_entries_are_left_out_or_end_the_list(rt: HostRuntime) -> Result<(), Fail> {
-    for &(first, error) in &FIRSTS {
-        let bytes = section_after(rt.alloc(), first)?;
-        match index_of(&bytes, rt.alloc(), BASE) {
-            Ok(index) => {
-                let offset = u32::try_from(first.len()).unwrap_or(0).wrapping_add(24);
-                assert!(rt; error == None && index.left_out() == 1);
-                assert!(rt; index.fde_offset_for_relative_address(0) == Some(offset));
-            }
-            Err(DwarfCfiIndexError::OutOfMemory) => return Err(Fail::new("OutOfMemory")),
-            Err(given) => assert!(rt; Some(given) == error),
-        }
-    }
-    Ok(())
-}
-
 static NAMES: [(DwarfCfiIndexError, &str); 3] = [
     (
         DwarfCfiIndexError::Gimli(Error::NoUnwindInfoForAddress),
@@ -215,10 +194,21 @@ static NAMES: [(DwarfCfiIndexError, &str); 3] = [
     (DwarfCfiIndexError::OutOfMemory, "OutOfMemory"),
 ];
 
+/// FDEs that can't be read are left out, and a fault of the list is returned. An error is printed by its name.
 #[test]
-fn an_error_is_printed_by_its_name(rt: HostRuntime) -> Result<(), Fail> {
-    for &(error, name) in &NAMES {
-        assert!(rt; error.to_string(rt.alloc())?.as_str() == name);
+fn first_entries_are_left_out_or_end_the_list(rt: HostRuntime) {
+    for &(first, error) in &FIRSTS {
+        let bytes = section_after(rt.alloc(), first).expect(&rt, "memory");
+        match index_of(&bytes, rt.alloc(), BASE) {
+            Ok(index) => {
+                let offset = u32::try_from(first.len()).unwrap_or(0).wrapping_add(24);
+                assert!(rt; error == None && index.left_out() == 1);
+                assert!(rt; index.fde_offset_for_relative_address(0) == Some(offset));
+            }
+            Err(given) => assert!(rt; Some(given) == error, "{given:?}"),
+        }
     }
-    Ok(())
+    for &(error, name) in &NAMES {
+        assert!(rt; error.to_string(rt.alloc()).expect(&rt, "memory").as_str() == name);
+    }
 }

@@ -1,14 +1,16 @@
 //! What sessions free once processes are let go: the holders of a section are counted.
 
+use crate::sessions::{hits, step, with_cache};
 use framehop::x86_64::{SessionX86_64, UnwindRegsX86_64};
 use framehop::{
-    CacheId, ExplicitModuleSectionInfo, FrameAddress, LoadOptions, SectionBytes, Session,
-    UnwinderId, load_module,
+    ExplicitModuleSectionInfo, FrameAddress, LoadOptions, Module, ModuleUnwinding, SectionBytes,
+    Session, UnwinderId, load_module,
 };
-use std::alloc::Global;
+use std::alloc::{AllocError, Global};
+use std::process::Abort;
 use std::rc::Rc;
-use std::test::Fail;
 use test_readers::WORKED;
+use test_rules::word_at;
 
 /// A section, which those that hold it share.
 #[derive(Drop)]
@@ -26,99 +28,128 @@ impl SectionBytes for Shared {
 
 type Processes = SessionX86_64<Shared>;
 
-// A section whose holders can be counted.
-fn section(alloc: Global) -> Result<Rc<Vec<u8>>, Fail> {
-    Ok(Rc::new(alloc, WORKED.to_vec(alloc)?)?)
-}
-
-// Makes a process, without a module.
-fn process(alloc: Global, session: &mut Processes) -> Result<UnwinderId, Fail> {
-    match session.add_unwinder(alloc) {
-        Ok(process) => Ok(process),
-        Err(_) => Err(Fail::new("OutOfMemory")),
-    }
-}
-
-// Loads a module with a section in a process.
-fn load(
-    alloc: Global,
-    session: &mut Processes,
-    process: UnwinderId,
-    section: &Rc<Vec<u8>>,
-) -> Result<(), Fail> {
+// A module with a section.
+fn module_with(alloc: Global, section: &Rc<Vec<u8>>) -> Result<Module<Shared>, AllocError> {
+    let Ok(bytes) = section.clone() else {
+        return Err(AllocError);
+    };
     let sections = ExplicitModuleSectionInfo {
-        eh_frame: Some(Shared {
-            bytes: section.clone()?,
-        }),
+        eh_frame: Some(Shared { bytes }),
         ..Default::default()
     };
     let name = String::from_str(alloc, "m")?;
-    let module = load_module(
-        alloc,
-        name,
-        0x100000..0x102000,
-        0x100000,
-        sections,
-        LoadOptions::default(),
-    )?;
-    if session.load(process, module)?.is_err() {
-        return Err(Fail::new("OutOfMemory"));
-    }
-    Ok(())
+    let (range, options) = (0x100000..0x102000, LoadOptions::default());
+    load_module(alloc, name, range, 0x100000, sections, options)
 }
 
 // Whether a step in a process goes by the section's row.
-fn steps_by_row(
-    session: &mut Processes,
-    process: UnwinderId,
-    cache: CacheId,
-) -> Result<bool, Fail> {
-    let mut regs = UnwindRegsX86_64::new(0x101000, 0x10, 0x20);
+fn steps_by_row(session: &mut Processes, process: usize) -> bool {
+    let regs = UnwindRegsX86_64::new(0x101000, 0x10, 0x20);
     let address = FrameAddress::from_instruction_pointer(0x101000);
-    let mut read_stack = |at: u64| Ok(if at == 0x10 { 0x100300 } else { 0x40 });
-    let answer = session.step(process, cache, address, &mut regs, &mut read_stack)?;
-    Ok(answer == Ok(Some(0x100300)) && regs.sp() == 0x18)
+    match step(session, process, address, regs, word_at) {
+        Some((answer, regs)) => answer == Ok(Some(0x100300)) && regs.sp() == 0x18,
+        None => false,
+    }
 }
+
+// What becomes of processes, by their numbers.
+#[derive(Clone, Copy)]
+enum Turn {
+    Begin,
+    Load(usize),
+    Unload(usize),
+    Clone(usize),
+    End(usize),
+}
+
+// Takes a turn, for which a module may be needed.
+fn change<A: ModuleUnwinding>(
+    alloc: Global,
+    session: &mut Session<A>,
+    turn: Turn,
+    module: framehop_unwinder::Module<A::UnwindData>,
+) -> bool {
+    match turn {
+        Turn::Begin => session.add_unwinder(alloc).is_ok(),
+        Turn::Load(process) => {
+            matches!(
+                session.load(UnwinderId::numbered(process), module),
+                Ok(Ok(()))
+            )
+        }
+        Turn::Unload(process) => {
+            matches!(
+                session.unload(UnwinderId::numbered(process), 0x100000),
+                Ok(Ok(()))
+            )
+        }
+        Turn::Clone(process) => {
+            matches!(
+                session.clone_unwinder(alloc, UnwinderId::numbered(process)),
+                Ok(Ok(_))
+            )
+        }
+        Turn::End(process) => session
+            .remove_unwinder(UnwinderId::numbered(process))
+            .is_ok(),
+    }
+}
+
+// Takes a turn with a section.
+fn take(
+    rt: &impl Abort,
+    alloc: Global,
+    session: &mut Processes,
+    section: &Rc<Vec<u8>>,
+    turn: Turn,
+) {
+    let module = module_with(alloc, section).expect(rt, "memory");
+    assert!(rt; change(alloc, session, turn, module), "OutOfMemory");
+}
+
+// A section.
+fn worked_section(alloc: Global) -> Result<Rc<Vec<u8>>, AllocError> {
+    Ok(Rc::new(alloc, WORKED.to_vec(alloc)?)?)
+}
+
+/// Turns, how many hold the section then, and whether steps in the first process and in the second go by its row.
+static TURNS: [(Turn, usize, bool, bool); 8] = [
+    (Turn::Begin, 1, false, false),
+    (Turn::Load(0), 2, true, false),
+    (Turn::Clone(0), 2, true, true),
+    (Turn::End(0), 2, false, true),
+    (Turn::Unload(1), 1, false, false),
+    (Turn::Load(1), 2, false, true),
+    (Turn::Load(1), 3, false, true),
+    (Turn::End(1), 1, false, false),
+];
 
 /// A module is held by the processes that have it, and freed with the last of them.
 #[test]
-fn modules_are_freed(rt: HostRuntime) -> Result<(), Fail> {
-    let alloc = rt.alloc();
-    let section = section(alloc)?;
-    let mut session: Processes = Session::empty(alloc);
-    let cache = session.add_cache(alloc)?;
-    let first = process(alloc, &mut session)?;
-    load(alloc, &mut session, first, &section)?;
-    assert!(rt; Rc::strong_count(&section) == 2 && steps_by_row(&mut session, first, cache)?);
-    let clone = session.clone_unwinder(alloc, first)??;
-    session.remove_unwinder(first)?;
-    assert!(rt; Rc::strong_count(&section) == 2 && steps_by_row(&mut session, clone, cache)?);
-    session.unload(clone, 0x100000)??;
-    assert!(rt; Rc::strong_count(&section) == 1 && !steps_by_row(&mut session, clone, cache)?);
-    load(alloc, &mut session, clone, &section)?;
-    load(alloc, &mut session, clone, &section)?;
-    assert!(rt; Rc::strong_count(&section) == 3);
-    session.remove_unwinder(clone)?;
-    assert!(rt; Rc::strong_count(&section) == 1);
-    Ok(())
+fn modules_are_freed(rt: HostRuntime) {
+    let section = worked_section(rt.alloc()).expect(&rt, "memory");
+    let mut session: Processes = with_cache(rt.alloc()).expect(&rt, "memory");
+    for (turn, holders, first, second) in &TURNS {
+        take(&rt, rt.alloc(), &mut session, &section, *turn);
+        assert!(rt; Rc::strong_count(&section) == *holders);
+        assert!(rt; steps_by_row(&mut session, 0) == *first);
+        assert!(rt; steps_by_row(&mut session, 1) == *second);
+    }
 }
 
 /// A thousand processes come and go, up to four at a time. `scripts/memory-level` counts the memory that they take.
 #[test]
-fn processes_come_and_go(rt: HostRuntime) -> Result<(), Fail> {
-    let alloc = rt.alloc();
-    let section = section(alloc)?;
-    let mut session: Processes = Session::empty(alloc);
-    let cache = session.add_cache(alloc)?;
+fn processes_come_and_go(rt: HostRuntime) {
+    let section = worked_section(rt.alloc()).expect(&rt, "memory");
+    let mut session: Processes = with_cache(rt.alloc()).expect(&rt, "memory");
     for number in 0..1000usize {
-        let process = process(alloc, &mut session)?;
-        load(alloc, &mut session, process, &section)?;
-        assert!(rt; steps_by_row(&mut session, process, cache)?);
+        take(&rt, rt.alloc(), &mut session, &section, Turn::Begin);
+        take(&rt, rt.alloc(), &mut session, &section, Turn::Load(number));
+        assert!(rt; steps_by_row(&mut session, number));
         if let Some(last) = number.checked_sub(3) {
-            session.remove_unwinder(UnwinderId::numbered(last))?;
+            take(&rt, rt.alloc(), &mut session, &section, Turn::End(last));
             assert!(rt; Rc::strong_count(&section) == 4);
         }
     }
-    assert!(rt; session.stats(cache)?.hits() == 0);
-    Ok(())
+    assert!(rt; hits(&session) == 0);
 }

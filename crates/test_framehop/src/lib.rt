@@ -1,4 +1,5 @@
-//! Tests of the unwinder, its index and its tables, and of the list that rows keep rules in, by public calls alone.
+//! Tests of the unwinder, its index and its caches, and of the list that rows keep rules in, by public calls alone. `cases_unwinding` has
+//! steps and walks as worked documents.
 #![tactic(auto)]
 
 #[cfg(test)]
@@ -14,19 +15,17 @@ mod in_place_vec;
 mod let_go;
 #[cfg(test)]
 mod memory;
+#[cfg(test)]
+mod modules;
 mod pe_files;
 #[cfg(test)]
 mod registers;
 #[cfg(test)]
 mod row_edges;
 #[cfg(test)]
-mod sections;
-#[cfg(test)]
 mod sessions;
 #[cfg(test)]
 mod steps;
-#[cfg(test)]
-mod tables;
 
 pub use headers::worked_header_is_truthful;
 pub use pe_files::PeFile;

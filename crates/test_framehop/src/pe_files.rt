@@ -6,7 +6,7 @@ use framehop::ModuleSectionInfo;
 use std::ops::Range;
 
 /// The bytes of `.pdata` and of `.xdata`, which is at 0x2000, in a PE file whose stated addresses are relative to 0.
-#[derive(Debug, Clone, Copy)]
+#[derive(Clone, Copy)]
 pub struct PeFile<'a> {
     pub pdata: &'a [u8],
     pub xdata: &'a [u8],

@@ -1,23 +1,78 @@
 //! Rows of aarch64 at the edges of what unwind rules say, each beside the same row with its CFA as an
 //! expression, which no rule says.
 
-mod section;
-
-use crate::sessions::{Sections, Stepped, module_of, step_twice};
+use crate::modules::{Sections, module_of};
+use crate::sessions::step_twice;
 use crate::steps::frame_at;
+use dwarf_readers::leb128::Leb128;
 use framehop::aarch64::{ArchAarch64, PtrAuthMask, UnwindRegsAarch64};
 use framehop::{BySections, MustNotAllocateDuringUnwind};
-use section::{Base, Cfa, Column, Row, with_row};
-use std::alloc::Global;
+use std::alloc::{AllocError, Global};
 use std::process::Abort;
-use std::test::Fail;
+
+/// The register that a CFA is relative to.
+const SP_COLUMN: u8 = 31;
+
+const FP_COLUMN: u8 = 29;
+
+/// A register rule: the instruction that sets it, if there is one, and the offset from the CFA at which the register is stored.
+type Column = (u8, i64);
+
+const NONE: Column = (0, 0);
+
+const SAME: Column = (0x08, 0);
+
+const UNDEFINED: Column = (0x07, 0);
+
+/// The instruction for a register that is stored.
+const STORED: u8 = 0x11;
+
+/// The register that the CFA is relative to, its offset, and the rules of X29 and X30.
+type Row = (u8, i64, Column, Column);
+
+/// A CIE whose offsets are in bytes and whose return address is in X30, and an FDE of 44 bytes for a function of sixteen bytes at
+/// 0x1000, up to its instructions.
+const HEAD: [u8; 40] = [
+    12, 0, 0, 0, 0, 0, 0, 0, 1, 0, 1, 1, 30, 0, 0, 0, 44, 0, 0, 0, 20, 0, 0, 0, 0, 0x10, 0, 0, 0,
+    0, 0, 0, 16, 0, 0, 0, 0, 0, 0, 0,
+];
+
+/// How many bytes the section has, with its end.
+const SIZE: usize = 68;
+
+/// A section with a function of sixteen bytes at 0x1000, which has this row.
+fn with_row(alloc: Global, is_expression: bool, row: Row) -> Result<Vec<u8>, AllocError> {
+    let (register, offset, fp, lr) = row;
+    let mut bytes = HEAD.to_vec(alloc)?;
+    let offset = Leb128::signed(offset);
+    if is_expression {
+        let length = (offset.len() as u8).wrapping_add(1);
+        bytes.extend_from_slice(&[0x0f, length, register.wrapping_add(0x70)])?;
+    } else {
+        bytes.extend_from_slice(&[0x12, register])?;
+    }
+    bytes.extend_from_slice(offset.bytes())?;
+    for (register, (instruction, stored)) in [(29, fp), (30, lr)] {
+        if instruction != 0 {
+            bytes.extend_from_slice(&[instruction, register])?;
+        }
+        if instruction == STORED {
+            bytes.extend_from_slice(Leb128::signed(stored).bytes())?;
+        }
+    }
+    bytes.resize(SIZE, 0)?;
+    Ok(bytes)
+}
 
 /// The stack pointer of each frame, far from 0 and from 2^63.
 const SP: u64 = 0x10_0000_0000;
+
 /// The frame pointer, above it.
 const FP: u64 = SP + 0x1_0000;
+
 /// The greatest distance in bytes that an unsigned field of words says.
 const WORDS: i64 = 8 * 65_535;
+
 /// The greatest distance in bytes that a field of pairs of words says.
 const PAIRS: i64 = 16 * 65_535;
 
@@ -26,71 +81,61 @@ fn word_at(address: u64) -> Result<u64, ()> {
     Ok(address.wrapping_add(0x2b00_0000_0100_0000))
 }
 
-/// Two equal steps in a module with a row, from a first or a later frame, by what the last gives.
-fn step(alloc: Global, row: &Row, is_first: bool) -> Result<Stepped<(u64, u64, u64)>, Fail> {
-    let bytes = with_row(alloc, row)?;
+/// What the last of two equal steps gives and leaves, and whether its rule was found again.
+type Stepped = (Option<u64>, (u64, u64, u64), bool);
+
+/// Two equal steps in a module with a row, from a first or a later frame.
+fn step_by(
+    rt: &impl Abort,
+    alloc: Global,
+    (is_expression, row): (bool, Row),
+    is_first: bool,
+) -> Stepped {
+    let section = with_row(alloc, is_expression, row).expect(rt, "memory");
     let sections = Sections {
-        eh_frame: Some(bytes.as_slice()),
+        eh_frame: Some(section.as_slice()),
         ..Default::default()
     };
-    let module = module_of(alloc, sections, 0x0..0x2000)?;
-    let address = frame_at(is_first, if is_first { 0x1004 } else { 0x1005 });
+    let module = module_of(alloc, sections, 0, None).expect(rt, "memory");
+    let frame = frame_at(is_first, if is_first { 0x1004 } else { 0x1005 });
     let regs = UnwindRegsAarch64::new_with_ptr_auth_mask(PtrAuthMask::new_24_40(), 0x1234, SP, FP);
-    let (return_address, regs, is_hit) = step_twice::<
+    let (stepped, hits) = step_twice::<
         BySections<ArchAarch64, &[u8], MustNotAllocateDuringUnwind>,
         _,
-    >(alloc, module, address, regs, word_at)?;
-    Ok((return_address, (regs.lr(), regs.sp(), regs.fp()), is_hit))
-}
-
-/// Whether an offset is an exact number of words between two bounds.
-fn is_words(offset: i64, least: i64, most: i64) -> bool {
-    offset % 8 == 0 && least <= offset && offset <= most
-}
-
-/// Whether an offset is an exact number of pairs of words, and a field of them says it.
-fn is_pairs(offset: i64) -> bool {
-    offset % 16 == 0 && 0 <= offset && offset <= PAIRS
+    >(rt, alloc, module, frame, regs, word_at);
+    let (answer, regs) = stepped.expect(rt, "a step");
+    (
+        answer.ok().flatten(),
+        (regs.lr(), regs.sp(), regs.fp()),
+        hits == 1,
+    )
 }
 
 /// Whether a signed field of words says where a register is stored, if it is stored.
-fn is_said(offset: i64, column: Column) -> bool {
-    match column {
-        Column::Stored(stored) => { is_words(offset.wrapping_add(stored), -8 * 32_768, 8 * 32_767) }
-        Column::None | Column::Same | Column::Undefined => true,
-    }
-}
-
-/// Whether a register rule says that its register is stored.
-fn is_stored(column: Column) -> bool {
-    matches!(column, Column::Stored(_))
+fn is_said(offset: i64, (instruction, stored): Column) -> bool {
+    let distance = offset.wrapping_add(stored);
+    instruction != STORED || distance % 8 == 0 && -8 * 32_768 <= distance && distance <= 8 * 32_767
 }
 
 /// Whether an unwind rule says the row.
-fn has_rule(row: &Row) -> bool {
-    if !is_said(row.offset, row.fp) || !is_said(row.offset, row.lr) {
+fn has_rule((register, offset, fp, lr): Row) -> bool {
+    if !is_said(offset, fp) || !is_said(offset, lr) || offset < 0 {
         return false;
     }
-    match row.base {
-        Base::Sp => { is_pairs(row.offset) && (is_stored(row.lr) || !is_stored(row.fp)) }
-        Base::X29 => is_words(row.offset, 0, WORDS) && is_stored(row.lr) && is_stored(row.fp),
+    let (stores_fp, stores_lr) = (fp.0 == STORED, lr.0 == STORED);
+    if register == SP_COLUMN {
+        offset % 16 == 0 && offset <= PAIRS && (stores_lr || !stores_fp)
+    } else {
+        offset % 8 == 0 && offset <= WORDS && stores_lr && stores_fp
     }
 }
 
 /// Wants that both forms of a row give one caller, and that only the form that a rule says is kept.
-fn check(rt: &impl Abort, alloc: Global, row: Row, is_first: bool) -> Result<(), Fail> {
-    let plain = step(alloc, &row, is_first)?;
-    let expression = Row {
-        cfa: Cfa::Expression,
-        ..row
-    };
-    let direct = step(alloc, &expression, is_first)?;
-    assert!(rt;
-        plain.0.is_some() && plain.0 == direct.0 && plain.1 == direct.1,
-        "{row:?}"
-    );
-    assert!(rt; plain.2 == has_rule(&row) && !direct.2, "{row:?}");
-    Ok(())
+fn check(rt: &impl Abort, alloc: Global, row: Row, is_first: bool) {
+    let (to, regs, is_kept) = step_by(rt, alloc, (false, row), is_first);
+    let direct = step_by(rt, alloc, (true, row), is_first);
+    assert!(rt; to.is_some() && direct == (to, regs, false), "{row:?}");
+    assert!(rt; is_kept == has_rule(row), "{row:?}");
 }
 
 /// Offsets of the CFA at the edges of what fields say, and beside them.
@@ -124,65 +169,36 @@ const DISTANCES: [i64; 9] = [
     -8 * 32_769,
 ];
 
-/// A row whose CFA is said by a register and an offset.
-fn row_of(base: Base, offset: i64, fp: Column, lr: Column) -> Row {
-    Row {
-        cfa: Cfa::Register,
-        base,
-        offset,
-        fp,
-        lr,
-    }
-}
-
-/// One register is stored where the CFA's register points to, and the other at each distance from there.
-fn check_stored(rt: &impl Abort, alloc: Global, base: Base, offset: i64) -> Result<(), Fail> {
-    let there = Column::Stored(offset.wrapping_neg());
+/// In first frames: a register is stored where the CFA's register points to, and the other at each distance from there, or it stays; and
+/// both stay.
+fn check_columns(rt: &impl Abort, alloc: Global, register: u8, offset: i64) {
+    let there = (STORED, offset.wrapping_neg());
     for distance in DISTANCES {
-        let other = Column::Stored(distance.wrapping_sub(offset));
-        check(rt, alloc, row_of(base, offset, there, other), true)?;
-        check(rt, alloc, row_of(base, offset, other, there), true)?;
+        let other = (STORED, distance.wrapping_sub(offset));
+        check(rt, alloc, (register, offset, there, other), true);
+        check(rt, alloc, (register, offset, other, there), true);
     }
-    Ok(())
-}
-
-/// One register or both stay.
-fn check_that_stay(rt: &impl Abort, alloc: Global, base: Base, offset: i64) -> Result<(), Fail> {
-    let stored = Column::Stored(offset.wrapping_neg());
-    let stay = [Column::None, Column::Same, Column::Undefined];
-    for column in stay {
-        for other in stay {
-            check(rt, alloc, row_of(base, offset, column, other), true)?;
-        }
-        check(rt, alloc, row_of(base, offset, column, stored), true)?;
-        check(rt, alloc, row_of(base, offset, stored, column), true)?;
-    }
-    Ok(())
-}
-
-#[test]
-fn first_frames_at_the_edges(rt: HostRuntime) -> Result<(), Fail> {
-    for base in [Base::Sp, Base::X29] {
-        for offset in OFFSETS {
-            check_stored(&rt, rt.alloc(), base, offset)?;
-            check_that_stay(&rt, rt.alloc(), base, offset)?;
+    for column in [NONE, SAME, UNDEFINED] {
+        check(rt, alloc, (register, offset, there, column), true);
+        for other in [there, NONE, SAME, UNDEFINED] {
+            check(rt, alloc, (register, offset, column, other), true);
         }
     }
-    Ok(())
 }
 
+/// Offsets of the CFA in later frames.
+const LATER: [i64; 7] = [8, 16, 32, WORDS, WORDS + 8, PAIRS, PAIRS + 16];
+
 #[test]
-fn later_frames_at_the_edges(rt: HostRuntime) -> Result<(), Fail> {
-    let (fp, lr) = (Column::Stored(-16), Column::Stored(-8));
-    for offset in [8, 16, 32, WORDS, WORDS + 8, PAIRS, PAIRS + 16] {
-        check(&rt, rt.alloc(), row_of(Base::Sp, offset, fp, lr), false)?;
-        check(&rt, rt.alloc(), row_of(Base::X29, offset, fp, lr), false)?;
-        check(
-            &rt,
-            rt.alloc(),
-            row_of(Base::Sp, offset, Column::Same, lr),
-            false,
-        )?;
+fn rows_at_the_edges(rt: HostRuntime) {
+    for offset in OFFSETS {
+        check_columns(&rt, rt.alloc(), SP_COLUMN, offset);
+        check_columns(&rt, rt.alloc(), FP_COLUMN, offset);
     }
-    Ok(())
+    let (fp, lr) = ((STORED, -16), (STORED, -8));
+    for offset in LATER {
+        for (register, fp) in [(SP_COLUMN, fp), (FP_COLUMN, fp), (SP_COLUMN, SAME)] {
+            check(&rt, rt.alloc(), (register, offset, fp, lr), false);
+        }
+    }
 }

@@ -1,112 +1,148 @@
-//! Two equal steps in a module, of any architecture, by a session with one cache.
+//! Sessions of one unwinder and one cache, by calls with plain results.
 ghost use Rattle.std.specs.Prelude.{true};
 
+use crate::modules::{Sections, module_of};
 use framehop::x86_64::{ArchX86_64, UnwindRegsX86_64};
 use framehop::{
-    BySections, CacheId, Error, ExplicitModuleSectionInfo, FrameAddress, Generations, LoadOptions,
-    MayAllocateDuringUnwind, Module, ModuleSectionInfo, ModuleUnwinding, Session, StackWalk,
-    UnwinderId, load_module,
+    BySections, CacheId, Error, FrameAddress, Generations, LoadError, MayAllocateDuringUnwind,
+    ModuleUnwinding, Session, StackWalk, UnwinderId,
 };
 use std::alloc::{AllocError, Global};
-use std::ops::Range;
-use std::test::Fail;
+use std::process::Abort;
 use test_readers::WORKED;
 
-/// The sections that a test states.
-pub type Sections<'a> = ExplicitModuleSectionInfo<&'a [u8]>;
-
-/// What a step gives, the registers that it leaves, and whether its rule was found again.
-pub type Stepped<R> = (Option<u64>, R, bool);
-
-/// A module with these sections at these addresses, if memory isn't refused.
-pub fn try_module_of<'a, I: ModuleSectionInfo<&'a [u8]> + Drop>(
-    alloc: Global,
-    sections: I,
-    range: Range<u64>,
-) -> Result<Module<&'a [u8]>, AllocError> {
-    let base = range.start;
-    let name = String::from_str(alloc, "m")?;
-    load_module(alloc, name, range, base, sections, LoadOptions::default())
-}
-
-/// A module with these sections at these addresses.
-pub fn module_of<'a, I: ModuleSectionInfo<&'a [u8]> + Drop>(
-    alloc: Global,
-    sections: I,
-    range: Range<u64>,
-) -> Result<Module<&'a [u8]>, Fail> {
-    Ok(try_module_of(alloc, sections, range)?)
-}
-
-/// A session of one unwinder, which has this module, and of one cache.
-fn session_of<A: ModuleUnwinding>(
-    alloc: Global,
-    module: framehop_unwinder::Module<A::UnwindData>,
-) -> Result<(Session<A>, UnwinderId, CacheId), Fail> {
+/// A session with an unwinder and a cache. What is refused once is asked for again.
+pub fn session_of<A: ModuleUnwinding>(alloc: Global) -> Result<Session<A>, AllocError> {
     let mut session = Session::new(alloc, Generations::new());
-    let cache = session.add_cache(alloc)?;
-    let Ok(unwinder) = session.add_unwinder(alloc) else {
-        return Err(Fail::new("no unwinder"));
-    };
-    if session.load(unwinder, module)?.is_err() {
-        return Err(Fail::new("not loaded"));
+    if session.add_unwinder(alloc).is_err() && session.add_unwinder(alloc).is_err() {
+        return Err(AllocError);
     }
-    Ok((session, unwinder, cache))
+    if session.add_cache(alloc).is_err() {
+        session.add_cache(alloc)?;
+    }
+    Ok(session)
 }
 
-/// Two equal steps from a frame through one cache, by what the last gives.
-pub fn step_twice<A: ModuleUnwinding, F: FnMut(u64) -> Result<u64, ()>>(
+/// A session of processes that are still to be made, with a cache.
+pub fn with_cache<A: ModuleUnwinding>(alloc: Global) -> Result<Session<A>, AllocError> {
+    let mut session = Session::empty(alloc);
+    session.add_cache(alloc)?;
+    Ok(session)
+}
+
+/// Loads a module. If its list can't grow, the session is as it was, and the module is given back; then it is loaded again.
+pub fn load<A: ModuleUnwinding>(
+    rt: &impl Abort,
+    session: &mut Session<A>,
+    module: framehop_unwinder::Module<A::UnwindData>,
+) -> Result<(), AllocError> {
+    let unwinder = UnwinderId::numbered(0);
+    let Ok(Err(LoadError::OutOfMemory(module))) = session.load(unwinder, module) else {
+        return Ok(());
+    };
+    assert!(rt; module.name() == "m");
+    match session.load(unwinder, module) {
+        Ok(Ok(())) => Ok(()),
+        _ => Err(AllocError),
+    }
+}
+
+/// What a step gives, and the registers that it leaves.
+pub type Stepped<R> = (Result<Option<u64>, Error>, R);
+
+/// A step in an unwinder, if it and a cache are there.
+pub fn step<A: ModuleUnwinding, F: FnMut(u64) -> Result<u64, ()> + Drop>(
+    session: &mut Session<A>,
+    unwinder: usize,
+    address: FrameAddress,
+    mut regs: A::UnwindRegs,
+    mut read_stack: F,
+) -> Option<Stepped<A::UnwindRegs>>
+    requires { F.IsAlwaysCallable read_stack }
+{
+    let (unwinder, cache) = (UnwinderId::numbered(unwinder), CacheId::numbered(0));
+    match session.step(unwinder, cache, address, &mut regs, &mut read_stack) {
+        Ok(answer) => Some((answer, regs)),
+        Err(_) => None,
+    }
+}
+
+/// The next frame of a walk, if there are an unwinder and a cache.
+pub fn next_frame<A: ModuleUnwinding, F: FnMut(u64) -> Result<u64, ()> + Drop>(
+    session: &mut Session<A>,
+    walk: &mut StackWalk<A::UnwindRegs>,
+    mut read_stack: F,
+) -> Option<Result<Option<FrameAddress>, Error>>
+    requires { F.IsAlwaysCallable read_stack }
+{
+    let (unwinder, cache) = (UnwinderId::numbered(0), CacheId::numbered(0));
+    match session.next_frame(unwinder, cache, walk, &mut read_stack) {
+        Ok(answer) => Some(answer),
+        Err(_) => None,
+    }
+}
+
+/// How often a rule was found again.
+pub fn hits<A: ModuleUnwinding>(session: &Session<A>) -> u64 {
+    match session.stats(CacheId::numbered(0)) {
+        Ok(stats) => stats.hit_count,
+        Err(_) => 0,
+    }
+}
+
+/// What the last of two equal steps in a module gives and leaves, and how often its rule was found again.
+pub fn step_twice<A: ModuleUnwinding, F: FnMut(u64) -> Result<u64, ()> + Copy>(
+    rt: &impl Abort,
     alloc: Global,
     module: framehop_unwinder::Module<A::UnwindData>,
     address: FrameAddress,
     regs: A::UnwindRegs,
-    mut word_at: F,
-) -> Result<Stepped<A::UnwindRegs>, Fail>
-    requires { F.IsAlwaysCallable word_at }
+    read_stack: F,
+) -> (Option<Stepped<A::UnwindRegs>>, u64)
+    requires { F.IsAlwaysCallable read_stack }
 {
-    let (mut session, unwinder, cache) = session_of::<A>(alloc, module)?;
-    let mut first = regs;
-    session.step(unwinder, cache, address, &mut first, &mut word_at)??;
-    let mut last = regs;
-    let return_address = session.step(unwinder, cache, address, &mut last, &mut word_at)??;
-    let is_hit = session.stats(cache)?.hit_count == 1;
-    Ok((return_address, last, is_hit))
+    let mut session = session_of::<A>(alloc).expect(rt, "memory");
+    load(rt, &mut session, module).expect(rt, "memory");
+    let _first = step(&mut session, 0, address, regs, read_stack);
+    let last = step(&mut session, 0, address, regs, read_stack);
+    (last, hits(&session))
 }
 
-/// A section whose one row has the return address at the stack pointer, three words below the CFA. No rule
+// Zero at the stack pointer, and an address at all others.
+fn null_at_first(at: u64) -> Result<u64, ()> {
+    Ok(if at == 0x10 { 0 } else { 0x100300 })
+}
+
+/// What the moves of a walk give, and the stack pointers then.
+static MOVES: [(Result<Option<u64>, Error>, u64); 3] = [
+    (Ok(Some(0x101000)), 0x10),
+    (Err(Error::ReturnAddressIsNull), 0x28),
+    (Ok(Some(0x100300)), 0x40),
+];
+
+/// After a return address of 0 a walk is at its old frame, with the registers of the caller: the next move steps from there, and here it
+/// finds a caller that isn't null. The section's one row has the return address at the stack pointer, three words below the CFA. No rule
 /// expresses it.
-fn section_without_a_rule() -> [u8; 56] {
+#[test]
+fn walks_have_the_callers_registers_after_a_return_address_of_0(rt: HostRuntime) {
     let mut section = WORKED;
     section[15] = 24;
     section[17] = 3;
-    section
-}
-
-/// After a return address of 0 a walk is at its old frame, with the registers of the caller: the next move
-/// steps from there, and here it finds a caller that isn't null.
-#[test]
-fn walks_have_the_callers_registers_after_a_return_address_of_0(
-    rt: HostRuntime,
-) -> Result<(), Fail> {
-    let section = section_without_a_rule();
     let sections = Sections {
         eh_frame: Some(&section),
         ..Default::default()
     };
-    let module = module_of(rt.alloc(), sections, 0x100000..0x102000)?;
-    let (mut session, unwinder, cache) = session_of::<
-        BySections<ArchX86_64, &[u8], MayAllocateDuringUnwind>,
-    >(rt.alloc(), module)?;
-    let mut read_stack = |at: u64| Ok(if at == 0x10 { 0 } else { 0x100300 });
-    let regs = UnwindRegsX86_64::new(0x101000, 0x10, 0x20);
-    let mut walk = StackWalk::new(0x101000, regs);
-    let first = FrameAddress::from_instruction_pointer(0x101000);
-    let start = session.next_frame(unwinder, cache, &mut walk, &mut read_stack)?;
-    assert!(rt; start == Ok(Some(first)));
-    let null = session.next_frame(unwinder, cache, &mut walk, &mut read_stack)?;
-    assert!(rt; null == Err(Error::ReturnAddressIsNull) && walk.regs().sp() == 0x28);
-    let other = session.next_frame(unwinder, cache, &mut walk, &mut read_stack)?;
-    assert!(rt; other == Ok(FrameAddress::from_return_address(0x100300)));
-    assert!(rt; walk.regs().sp() == 0x40);
-    Ok(())
+    let module = module_of(rt.alloc(), sections, 0x100000, None).expect(&rt, "memory");
+    let session = session_of::<BySections<ArchX86_64, &[u8], MayAllocateDuringUnwind>>(rt.alloc());
+    let mut session = session.expect(&rt, "memory");
+    load(&rt, &mut session, module).expect(&rt, "memory");
+    let mut walk = StackWalk::new(0x101000, UnwindRegsX86_64::new(0x101000, 0x10, 0x20));
+    for (wanted, sp) in &MOVES {
+        let moved = match next_frame(&mut session, &mut walk, null_at_first) {
+            Some(Ok(Some(frame))) => Ok(Some(frame.address())),
+            Some(Err(error)) => Err(error),
+            _ => Ok(None),
+        };
+        assert!(rt; moved == *wanted && walk.regs().sp() == *sp);
+    }
 }

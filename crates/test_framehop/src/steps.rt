@@ -1,12 +1,10 @@
 //! Steps over one module by an unwinder and a cache of x86_64, on the worked stack.
-use framehop::aarch64::CacheAarch64;
-use framehop::x86_64::{CacheX86_64, UnwindRegsX86_64, UnwinderX86_64};
+use framehop::x86_64::{ArchX86_64, UnwindRegsX86_64, UnwinderX86_64};
 use framehop::{
-    AllocationPolicy, Error, ExplicitModuleSectionInfo, FrameAddress, Generations, LoadOptions,
-    MayAllocateDuringUnwind, Module, MustNotAllocateDuringUnwind, Unwinder, load_module,
+    BySections, Error, ExplicitModuleSectionInfo, FrameAddress, Generations, LoadOptions,
+    MayAllocateDuringUnwind, Module, ModuleUnwinding, Unwinder, UnwinderInternal, load_module,
 };
-use std::alloc::Global;
-use std::test::Fail;
+use std::alloc::{AllocError, Global};
 use test_readers::WORKED;
 use test_rules::word_at;
 
@@ -18,7 +16,7 @@ const BY_EXPRESSION: [u8; 32] = [
 ];
 
 /// The worked section, with that FDE.
-pub fn with_expression(alloc: Global) -> Result<Vec<u8>, Fail> {
+pub fn with_expression(alloc: Global) -> Result<Vec<u8>, AllocError> {
     let mut both = WORKED[..52].to_vec(alloc)?;
     both.extend_from_slice(&BY_EXPRESSION)?;
     Ok(both)
@@ -28,41 +26,37 @@ pub fn with_expression(alloc: Global) -> Result<Vec<u8>, Fail> {
 pub type Registers = (u64, u64, u64);
 
 /// A module that is loaded at 0x100000, with this section `.eh_frame`.
-pub fn module_with(alloc: Global, section: &[u8]) -> Result<Module<Vec<u8>>, Fail> {
+pub fn module_with(alloc: Global, section: &[u8]) -> Result<Module<Vec<u8>>, AllocError> {
     let sections = ExplicitModuleSectionInfo {
         eh_frame: Some(section.to_vec(alloc)?),
         ..Default::default()
     };
     let name = String::from_str(alloc, "m")?;
-    Ok(load_module(
-        alloc,
-        name,
-        0x100000..0x102000,
-        0x100000,
-        sections,
-        LoadOptions::default(),
-    )?)
+    let (range, options) = (0x100000..0x102000, LoadOptions::default());
+    load_module(alloc, name, range, 0x100000, sections, options)
 }
 
 /// An unwinder of one module.
-pub fn unwinder_in<P: AllocationPolicy>(
+fn unwinder_with<A: ModuleUnwinding>(
     alloc: Global,
-    generations: &mut Generations,
-    module: Module<Vec<u8>>,
-) -> Result<UnwinderX86_64<Vec<u8>, P>, Fail> {
-    let mut unwinder = UnwinderX86_64::new(alloc, generations)?;
-    if unwinder.add_module(generations, module).is_err() {
-        return Err(Fail::new("OutOfMemory"));
+    module: framehop_unwinder::Module<A::UnwindData>,
+) -> Result<UnwinderInternal<A>, AllocError> {
+    let mut generations = Generations::new();
+    let Ok(mut unwinder) = UnwinderInternal::<A>::new(alloc, &mut generations) else {
+        return Err(AllocError);
+    };
+    match unwinder.add_module(&mut generations, module) {
+        Ok(()) => Ok(unwinder),
+        Err(_) => Err(AllocError),
     }
-    Ok(unwinder)
 }
 
 /// An unwinder of one module, which has this section.
-pub fn unwinder_of<P: AllocationPolicy>(
-    alloc: Global,
-    section: &[u8],
-) -> Result<UnwinderX86_64<Vec<u8>, P>, Fail> {
-    unwinder_in(alloc, &mut Generations::new(), module_with(alloc, section)?)
+pub fn unwinder_of(alloc: Global, section: &[u8]) -> Result<UnwinderX86_64<Vec<u8>>, AllocError> {
+    unwinder_with::<BySections<ArchX86_64, Vec<u8>, MayAllocateDuringUnwind>>(
+        alloc,
+        module_with(alloc, section)?,
+    )
 }
 
 /// The frame of an instruction pointer, or of a return address other than 0.
@@ -84,25 +78,4 @@ pub fn try_step<U: Unwinder<UnwindRegs = UnwindRegsX86_64>>(
     let mut read = word_at;
     let answer = unwinder.unwind_frame(frame_at(is_first, ip), &mut regs, cache, &mut read);
     (answer, (regs.ip(), regs.sp(), regs.bp()))
-}
-
-/// A new cache of aarch64 has counted nothing, under either policy.
-#[test]
-fn new_caches_have_counted_nothing(rt: HostRuntime) -> Result<(), Fail> {
-    let may = CacheAarch64::new(rt.alloc())?;
-    assert!(rt; may.stats().total() == 0);
-    let must = CacheAarch64::<MustNotAllocateDuringUnwind>::new_in(rt.alloc())?;
-    assert!(rt; must.stats().total() == 0);
-    Ok(())
-}
-
-#[test]
-fn a_module_tells_its_place(rt: HostRuntime) -> Result<(), Fail> {
-    let module = module_with(rt.alloc(), &WORKED)?;
-    let range = module.avma_range();
-    assert!(rt;
-        (module.name(), range.start, range.end, module.base_avma())
-            == ("m", 0x100000, 0x102000, 0x100000)
-    );
-    Ok(())
 }
