@@ -76,17 +76,15 @@ static EH_FRAME: [u8; 56] = [
     0x0d, 6, 0, 0, 0, 0,
 ];
 
-/// The library, which is loaded at 0x100000.
-pub fn library(alloc: Global) -> Result<Module<Vec<u8>>> {
-    let sections = ExplicitModuleSectionInfo {
-        base_svma: 0,
-        eh_frame: Some(EH_FRAME.to_vec(alloc)?),
-        ..Default::default()
-    };
-    let name = String::from_str(alloc, "library")?;
+// A library with these sections, which is loaded at 0x100000.
+fn loaded(
+    alloc: Global,
+    name: &str,
+    sections: ExplicitModuleSectionInfo<Vec<u8>>,
+) -> Result<Module<Vec<u8>>> {
     Ok(load_module(
         alloc,
-        name,
+        String::from_str(alloc, name)?,
         0x100000..0x102000,
         0x100000,
         sections,
@@ -94,15 +92,17 @@ pub fn library(alloc: Global) -> Result<Module<Vec<u8>>> {
     )?)
 }
 
+/// The library.
+pub fn library(alloc: Global) -> Result<Module<Vec<u8>>> {
+    let sections = ExplicitModuleSectionInfo {
+        base_svma: 0,
+        eh_frame: Some(EH_FRAME.to_vec(alloc)?),
+        ..Default::default()
+    };
+    loaded(alloc, "library", sections)
+}
+
 /// A library of another process, at the same place, whose section says nothing of the function.
 pub fn other_library(alloc: Global) -> Result<Module<Vec<u8>>> {
-    let name = String::from_str(alloc, "other library")?;
-    Ok(load_module(
-        alloc,
-        name,
-        0x100000..0x102000,
-        0x100000,
-        ExplicitModuleSectionInfo::<Vec<u8>>::default(),
-        LoadOptions::default(),
-    )?)
+    loaded(alloc, "other library", ExplicitModuleSectionInfo::default())
 }
