@@ -10,3 +10,12 @@ stats_of counts = record {
   miss_wrong_modules_count = counts.miss_wrong_modules_count;
   miss_wrong_address_count = counts.miss_wrong_address_count;
 }
+
+-- the same counts, as C has them
+abbrev pub counts_of : CacheStats → Counts
+counts_of stats = record {
+  hit_count = stats.hit_count;
+  miss_empty_slot_count = stats.miss_empty_slot_count;
+  miss_wrong_modules_count = stats.miss_wrong_modules_count;
+  miss_wrong_address_count = stats.miss_wrong_address_count;
+}

@@ -1,7 +1,6 @@
 -- Files that are mapped in a profiled process, and what their loads do.
-use Rattle.std.specs.Prelude.{ℕ, ◌≡◌, [], Bool, not, ◌==◌, Option, Some, None, option_map, if◌then◌else◌}
+use Rattle.std.specs.Prelude.{ℕ, ◌≡◌, [], not, ◌==◌, Option, Some, None, option_map, if◌then◌else◌}
 use Rattle.framehop_code_rules.specs.declared.CodeRules.TheVariants.{Published}
-use Rattle.framehop_unwinder.specs.ByNumber.{is_held}
 use Rattle.framehop_unwinder.specs.Modules.{Loaded}
 use Rattle.framehop_loads.specs.UnwindData.{UnwindData, unwind_data_with}
 use Rattle.framehop_loads.specs.declared.load_options.FdeLookup.{FdeLookup}
@@ -45,11 +44,6 @@ module_of file options = record {
 abbrev pub arch_of : AnySession → TableArch
 arch_of (X86_64 session) = arch.X86_64
 arch_of (Aarch64 session) = arch.Aarch64
-
--- a session has an unwinder of a number
-abbrev pub has_unwinder : AnySession → ℕ → Bool
-has_unwinder (X86_64 session) unwinder = is_held session.unwinders unwinder
-has_unwinder (Aarch64 session) unwinder = is_held session.unwinders unwinder
 
 -- A file is loaded in an unwinder as these options ask, if there are some.
 abbrev pub LoadsFileBy : ℕ → ℕ → MappedFile → Option LoadOptions → AnySession → AnySession → Type 0

@@ -4,13 +4,14 @@ ghost use Rattle.std.specs.Prelude.{◌≡◌, None};
 ghost use Rattle.framehop_rules.specs.Slots.{IsSlotCount};
 ghost use Rattle.framehop_calls.specs.Calls.{AddsCache, RemovesCache, TellsCounts};
 ghost use Rattle.framehop_calls.specs.Statuses.{bad_argument, no_value};
-ghost use Rattle.framehop_c.specs.Caches.{stats_of};
-ghost use Rattle.framehop_c.specs.Sessions.{Does, DoesIn};
+ghost use Rattle.framehop_c.specs.Caches.{counts_of, stats_of};
+ghost use Rattle.framehop_c.specs.Sessions.{DoesIn};
 
 use crate::handle::SessionHandle;
-use crate::session::AnySession;
-use framehop::CacheStats;
-use framehop_calls::status::{BAD_ARGUMENT, NO_VALUE};
+use crate::session::{LentData, SessionCall};
+use framehop::{CacheStats, ModuleUnwinding};
+use framehop_calls::CountedSession;
+use framehop_calls::status::BAD_ARGUMENT;
 use framehop_rules::SlotCount;
 use std::alloc::Global;
 
@@ -39,7 +40,7 @@ impl Counts {
 
     // The counts as C has them.
     fn of(stats: CacheStats) -> Self
-        ensures { stats_of result ≡ stats }
+        ensures { result ≡ counts_of stats }
     {
         Counts {
             hit_count: stats.hit_count,
@@ -50,35 +51,57 @@ impl Counts {
     }
 }
 
-impl AnySession {
-    // Makes a cache of so many slots, and writes its number.
-    fn add_cache(&mut self, alloc: Global, slots: SlotCount, cache: &mut u64) -> u32
-        ensures { Does (λ R. AddsCache result slots cache.old cache.new) self.old self.new }
-    {
-        match self {
-            AnySession::X86_64(session) => session.add_cache(alloc, slots, cache),
-            AnySession::Aarch64(session) => session.add_cache(alloc, slots, cache),
-        }
-    }
+// Makes a cache of so many slots, and writes its number.
+#[derive(Clone, Copy)]
+struct AddCache {
+    alloc: Global,
+    slots: SlotCount,
+    cache: u64,
+}
 
-    // Lets a cache go.
-    fn remove_cache(&mut self, cache: u64) -> u32
-        ensures { Does (λ R. RemovesCache result cache) self.old self.new }
-    {
-        match self {
-            AnySession::X86_64(session) => session.remove_cache(cache),
-            AnySession::Aarch64(session) => session.remove_cache(cache),
-        }
-    }
+impl SessionCall for AddCache {
+    ghost does = { λ old new status R. AddsCache status old.slots old.cache new.cache };
 
-    // Writes the counts of a cache.
-    fn counts(&self, cache: u64, stats: &mut CacheStats) -> u32
-        ensures { Does (λ R. TellsCounts result cache stats.old stats.new) self.now self.now }
-    {
-        match self {
-            AnySession::X86_64(session) => session.counts(cache, stats),
-            AnySession::Aarch64(session) => session.counts(cache, stats),
-        }
+    fn make<A: ModuleUnwinding<UnwindData = LentData>>(
+        &mut self,
+        session: &mut CountedSession<A>,
+    ) -> u32 {
+        session.add_cache(self.alloc, self.slots, &mut self.cache)
+    }
+}
+
+// Lets a cache go.
+#[derive(Clone, Copy)]
+struct RemoveCache {
+    cache: u64,
+}
+
+impl SessionCall for RemoveCache {
+    ghost does = { λ old new status R. RemovesCache status old.cache };
+
+    fn make<A: ModuleUnwinding<UnwindData = LentData>>(
+        &mut self,
+        session: &mut CountedSession<A>,
+    ) -> u32 {
+        session.remove_cache(self.cache)
+    }
+}
+
+// Writes the counts of a cache.
+#[derive(Clone, Copy)]
+struct TellCounts {
+    cache: u64,
+    counts: CacheStats,
+}
+
+impl SessionCall for TellCounts {
+    ghost does = { λ old new status R. TellsCounts status old.cache old.counts new.counts };
+
+    fn make<A: ModuleUnwinding<UnwindData = LentData>>(
+        &mut self,
+        session: &mut CountedSession<A>,
+    ) -> u32 {
+        session.counts(self.cache, &mut self.counts)
     }
 }
 
@@ -98,11 +121,13 @@ pub extern "C" fn framehop_add_cache(
     let Some(slots) = SlotCount::new(slots as usize) else {
         return BAD_ARGUMENT;
     };
-    let Some(mut state) = session.take(alloc) else {
-        return NO_VALUE;
+    let mut call = AddCache {
+        alloc,
+        slots,
+        cache: *cache,
     };
-    let status = state.add_cache(alloc, slots, cache);
-    session.put(alloc, state);
+    let status = session.call(alloc, &mut call);
+    *cache = call.cache;
     status
 }
 
@@ -116,12 +141,7 @@ pub extern "C" fn framehop_remove_cache(
     ensures removes { DoesIn (λ R. RemovesCache result cache) session.old.value session.new.value }
     ensures none { session.old.value ≡ None → result ≡ no_value }
 {
-    let Some(mut state) = session.take(alloc) else {
-        return NO_VALUE;
-    };
-    let status = state.remove_cache(cache);
-    session.put(alloc, state);
-    status
+    session.call(alloc, &mut RemoveCache { cache })
 }
 
 /// Writes the counts of a cache.
@@ -135,12 +155,11 @@ pub extern "C" fn framehop_stats(
     ensures tells { DoesIn (λ R. TellsCounts result cache (stats_of stats.old) (stats_of stats.new)) session.old.value session.new.value }
     ensures none { session.old.value ≡ None → (result ≡ no_value) × (stats.new ≡ stats.old) }
 {
-    let Some(state) = session.take(alloc) else {
-        return NO_VALUE;
+    let mut call = TellCounts {
+        cache,
+        counts: stats.stats(),
     };
-    let mut counts = stats.stats();
-    let status = state.counts(cache, &mut counts);
-    session.put(alloc, state);
-    *stats = Counts::of(counts);
+    let status = session.call(alloc, &mut call);
+    *stats = Counts::of(call.counts);
     status
 }

@@ -3,9 +3,12 @@
 ghost use Rattle.std.specs.Prelude.{◌≡◌, Some, None, Option, MatchOption};
 ghost use Rattle.framehop_c.specs.declared.session.AnySession.{AnySession};
 ghost use Rattle.framehop_c.specs.contracts.session.AnySession.{the_row};
+ghost use Rattle.framehop_calls.specs.Statuses.{no_value};
 ghost use Rattle.framehop_c.specs.Held.{held};
+ghost use Rattle.framehop_c.specs.Sessions.{DoesIn};
 
-use crate::session::AnySession;
+use crate::session::{AnySession, SessionCall};
+use framehop_calls::status::NO_VALUE;
 use kept_boxes::KeptBox;
 use std::alloc::Global;
 use std::marker::Model;
@@ -73,5 +76,17 @@ impl SessionHandle {
         if let Some(kept) = mem::replace(self, handle).into_kept(alloc) {
             drop(kept.into_box());
         }
+    }
+    /// Makes a call on the session, if there is one.
+    pub(crate) fn call<C: SessionCall>(&mut self, alloc: Global, call: &mut C) -> u32
+        ensures made { DoesIn (C.does call.old call.new result) self.old.value self.new.value }
+        ensures none { self.old.value ≡ None → (result ≡ no_value) × (call.new ≡ call.old) }
+    {
+        let Some(mut session) = self.take(alloc) else {
+            return NO_VALUE;
+        };
+        let status = session.make(call);
+        self.put(alloc, session);
+        status
     }
 }

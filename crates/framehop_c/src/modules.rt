@@ -3,13 +3,14 @@
 ghost use Rattle.std.specs.Prelude.{◌≡◌, None, IfOk};
 ghost use Rattle.framehop_calls.specs.Calls.{LoadsModule, TellsLastEnd, UnloadsModule};
 ghost use Rattle.framehop_calls.specs.Statuses.{no_value};
-ghost use Rattle.framehop_c.specs.Files.{LoadsFile, arch_of, has_unwinder, module_of};
-ghost use Rattle.framehop_c.specs.Sessions.{Does, DoesIn, InHandle};
+ghost use Rattle.framehop_c.specs.Files.{LoadsFile, arch_of, module_of};
+ghost use Rattle.framehop_c.specs.Sessions.{DoesIn, InHandle};
 
 use crate::files::MappedFile;
 use crate::handle::SessionHandle;
-use crate::session::AnySession;
-use framehop::{LoadOptions, Module, TableArch, load_module};
+use crate::session::{AnySession, LentData, SessionCall};
+use framehop::{LoadOptions, Module, ModuleUnwinding, TableArch, load_module};
+use framehop_calls::CountedSession;
 use framehop_calls::status::{BAD_ARGUMENT, NO_UNWINDER, NO_VALUE, OUT_OF_MEMORY};
 use std::alloc::{AllocError, Global};
 
@@ -31,6 +32,68 @@ fn module_of(
     )
 }
 
+// Loads a file in an unwinder.
+#[derive(Clone, Copy)]
+struct LoadFile<'a> {
+    alloc: Global,
+    unwinder: u64,
+    file: MappedFile<'a>,
+    options: LoadOptions,
+}
+
+impl SessionCall for LoadFile<'_> {
+    ghost does = { λ old new status R. LoadsModule status old.unwinder (module_of old.file old.options) };
+
+    fn make<A: ModuleUnwinding<UnwindData = LentData>>(
+        &mut self,
+        session: &mut CountedSession<A>,
+    ) -> u32 {
+        if !session.has_unwinder(self.unwinder) {
+            return NO_UNWINDER;
+        }
+        match module_of(self.alloc, &self.file, self.options) {
+            Ok(module) => session.load(self.unwinder, module),
+            Err(_) => OUT_OF_MEMORY,
+        }
+    }
+}
+
+// Unloads the last of an unwinder's modules that start at an address.
+#[derive(Clone, Copy)]
+struct Unload {
+    unwinder: u64,
+    start: u64,
+}
+
+impl SessionCall for Unload {
+    ghost does = { λ old new status R. UnloadsModule status old.unwinder old.start };
+
+    fn make<A: ModuleUnwinding<UnwindData = LentData>>(
+        &mut self,
+        session: &mut CountedSession<A>,
+    ) -> u32 {
+        session.unload(self.unwinder, self.start)
+    }
+}
+
+// Writes the end of an unwinder's last module, else 0.
+#[derive(Clone, Copy)]
+struct TellLastEnd {
+    unwinder: u64,
+    address: u64,
+}
+
+impl SessionCall for TellLastEnd {
+    ghost does = { λ old new status R. TellsLastEnd status old.unwinder old.address new.address };
+
+    fn make<A: ModuleUnwinding<UnwindData = LentData>>(
+        &mut self,
+        session: &mut CountedSession<A>,
+    ) -> u32 {
+        session.max_known_code_address(self.unwinder, &mut self.address)
+    }
+}
+
 impl AnySession {
     // What tables of its modules are made for.
     fn arch(&self) -> TableArch
@@ -42,26 +105,6 @@ impl AnySession {
         }
     }
 
-    // Whether it has an unwinder of a number.
-    fn has_unwinder(&self, unwinder: u64) -> bool
-        ensures { result ≡ has_unwinder self.now unwinder }
-    {
-        match self {
-            AnySession::X86_64(session) => session.has_unwinder(unwinder),
-            AnySession::Aarch64(session) => session.has_unwinder(unwinder),
-        }
-    }
-
-    // Loads a module in an unwinder.
-    fn load_module(&mut self, unwinder: u64, module: Module<&'static [u8]>) -> u32
-        ensures { Does (λ R. LoadsModule result unwinder «module».entry) self.old self.new }
-    {
-        match self {
-            AnySession::X86_64(session) => session.load(unwinder, module),
-            AnySession::Aarch64(session) => session.load(unwinder, module),
-        }
-    }
-
     // Loads a file in an unwinder.
     fn load(&mut self, alloc: Global, unwinder: u64, file: &MappedFile<'_>) -> u32
         ensures { LoadsFile result unwinder file.now self.old self.new }
@@ -69,33 +112,12 @@ impl AnySession {
         let Some(options) = file.options(self.arch()) else {
             return BAD_ARGUMENT;
         };
-        if !self.has_unwinder(unwinder) {
-            return NO_UNWINDER;
-        }
-        match module_of(alloc, file, options) {
-            Ok(module) => self.load_module(unwinder, module),
-            Err(_) => OUT_OF_MEMORY,
-        }
-    }
-
-    // Unloads the last of an unwinder's modules that start at an address.
-    fn unload(&mut self, unwinder: u64, start: u64) -> u32
-        ensures { Does (λ R. UnloadsModule result unwinder start) self.old self.new }
-    {
-        match self {
-            AnySession::X86_64(session) => session.unload(unwinder, start),
-            AnySession::Aarch64(session) => session.unload(unwinder, start),
-        }
-    }
-
-    // Writes the end of an unwinder's last module, else 0.
-    fn max_known_code_address(&self, unwinder: u64, address: &mut u64) -> u32
-        ensures { Does (λ R. TellsLastEnd result unwinder address.old address.new) self.now self.now }
-    {
-        match self {
-            AnySession::X86_64(session) => session.max_known_code_address(unwinder, address),
-            AnySession::Aarch64(session) => session.max_known_code_address(unwinder, address),
-        }
+        self.make(&mut LoadFile {
+            alloc,
+            unwinder,
+            file: *file,
+            options,
+        })
     }
 }
 
@@ -129,12 +151,7 @@ pub extern "C" fn framehop_unload(
     ensures unloads { DoesIn (λ R. UnloadsModule result unwinder start) session.old.value session.new.value }
     ensures none { session.old.value ≡ None → result ≡ no_value }
 {
-    let Some(mut state) = session.take(alloc) else {
-        return NO_VALUE;
-    };
-    let status = state.unload(unwinder, start);
-    session.put(alloc, state);
-    status
+    session.call(alloc, &mut Unload { unwinder, start })
 }
 
 /// Writes the end of the unwinder's module with the greatest start, else 0.
@@ -148,10 +165,11 @@ pub extern "C" fn framehop_max_known_code_address(
     ensures tells { DoesIn (λ R. TellsLastEnd result unwinder address.old address.new) session.old.value session.new.value }
     ensures none { session.old.value ≡ None → (result ≡ no_value) × (address.new ≡ address.old) }
 {
-    let Some(state) = session.take(alloc) else {
-        return NO_VALUE;
+    let mut call = TellLastEnd {
+        unwinder,
+        address: *address,
     };
-    let status = state.max_known_code_address(unwinder, address);
-    session.put(alloc, state);
+    let status = session.call(alloc, &mut call);
+    *address = call.address;
     status
 }

@@ -3,42 +3,65 @@
 ghost use Rattle.std.specs.Prelude.{◌≡◌, None};
 ghost use Rattle.framehop_calls.specs.Calls.{AddsUnwinder, ClonesUnwinder, RemovesUnwinder};
 ghost use Rattle.framehop_calls.specs.Statuses.{no_value};
-ghost use Rattle.framehop_c.specs.Sessions.{Does, DoesIn};
+ghost use Rattle.framehop_c.specs.Sessions.{DoesIn};
 
 use crate::handle::SessionHandle;
-use crate::session::AnySession;
-use framehop_calls::status::NO_VALUE;
+use crate::session::{LentData, SessionCall};
+use framehop::ModuleUnwinding;
+use framehop_calls::CountedSession;
 use std::alloc::Global;
 
-impl AnySession {
-    // Makes an unwinder without a module, and writes its number.
-    fn add_unwinder(&mut self, alloc: Global, unwinder: &mut u64) -> u32
-        ensures { Does (λ R. AddsUnwinder result unwinder.old unwinder.new) self.old self.new }
-    {
-        match self {
-            AnySession::X86_64(session) => session.add_unwinder(alloc, unwinder),
-            AnySession::Aarch64(session) => session.add_unwinder(alloc, unwinder),
-        }
-    }
+// Makes an unwinder without a module, and writes its number.
+#[derive(Clone, Copy)]
+struct AddUnwinder {
+    alloc: Global,
+    unwinder: u64,
+}
 
-    // Makes an unwinder with the modules of another, and writes its number.
-    fn clone_unwinder(&mut self, alloc: Global, unwinder: u64, clone: &mut u64) -> u32
-        ensures { Does (λ R. ClonesUnwinder result unwinder clone.old clone.new) self.old self.new }
-    {
-        match self {
-            AnySession::X86_64(session) => session.clone_unwinder(alloc, unwinder, clone),
-            AnySession::Aarch64(session) => session.clone_unwinder(alloc, unwinder, clone),
-        }
-    }
+impl SessionCall for AddUnwinder {
+    ghost does = { λ old new status R. AddsUnwinder status old.unwinder new.unwinder };
 
-    // Lets an unwinder go, with its modules.
-    fn remove_unwinder(&mut self, unwinder: u64) -> u32
-        ensures { Does (λ R. RemovesUnwinder result unwinder) self.old self.new }
-    {
-        match self {
-            AnySession::X86_64(session) => session.remove_unwinder(unwinder),
-            AnySession::Aarch64(session) => session.remove_unwinder(unwinder),
-        }
+    fn make<A: ModuleUnwinding<UnwindData = LentData>>(
+        &mut self,
+        session: &mut CountedSession<A>,
+    ) -> u32 {
+        session.add_unwinder(self.alloc, &mut self.unwinder)
+    }
+}
+
+// Makes an unwinder with the modules of another, and writes its number.
+#[derive(Clone, Copy)]
+struct CloneUnwinder {
+    alloc: Global,
+    unwinder: u64,
+    clone: u64,
+}
+
+impl SessionCall for CloneUnwinder {
+    ghost does = { λ old new status R. ClonesUnwinder status old.unwinder old.clone new.clone };
+
+    fn make<A: ModuleUnwinding<UnwindData = LentData>>(
+        &mut self,
+        session: &mut CountedSession<A>,
+    ) -> u32 {
+        session.clone_unwinder(self.alloc, self.unwinder, &mut self.clone)
+    }
+}
+
+// Lets an unwinder go, with its modules.
+#[derive(Clone, Copy)]
+struct RemoveUnwinder {
+    unwinder: u64,
+}
+
+impl SessionCall for RemoveUnwinder {
+    ghost does = { λ old new status R. RemovesUnwinder status old.unwinder };
+
+    fn make<A: ModuleUnwinding<UnwindData = LentData>>(
+        &mut self,
+        session: &mut CountedSession<A>,
+    ) -> u32 {
+        session.remove_unwinder(self.unwinder)
     }
 }
 
@@ -52,11 +75,12 @@ pub extern "C" fn framehop_add_unwinder(
     ensures adds { DoesIn (λ R. AddsUnwinder result unwinder.old unwinder.new) session.old.value session.new.value }
     ensures none { session.old.value ≡ None → (result ≡ no_value) × (unwinder.new ≡ unwinder.old) }
 {
-    let Some(mut state) = session.take(alloc) else {
-        return NO_VALUE;
+    let mut call = AddUnwinder {
+        alloc,
+        unwinder: *unwinder,
     };
-    let status = state.add_unwinder(alloc, unwinder);
-    session.put(alloc, state);
+    let status = session.call(alloc, &mut call);
+    *unwinder = call.unwinder;
     status
 }
 
@@ -71,11 +95,13 @@ pub extern "C" fn framehop_clone_unwinder(
     ensures clones { DoesIn (λ R. ClonesUnwinder result unwinder clone.old clone.new) session.old.value session.new.value }
     ensures none { session.old.value ≡ None → (result ≡ no_value) × (clone.new ≡ clone.old) }
 {
-    let Some(mut state) = session.take(alloc) else {
-        return NO_VALUE;
+    let mut call = CloneUnwinder {
+        alloc,
+        unwinder,
+        clone: *clone,
     };
-    let status = state.clone_unwinder(alloc, unwinder, clone);
-    session.put(alloc, state);
+    let status = session.call(alloc, &mut call);
+    *clone = call.clone;
     status
 }
 
@@ -89,10 +115,5 @@ pub extern "C" fn framehop_remove_unwinder(
     ensures removes { DoesIn (λ R. RemovesUnwinder result unwinder) session.old.value session.new.value }
     ensures none { session.old.value ≡ None → result ≡ no_value }
 {
-    let Some(mut state) = session.take(alloc) else {
-        return NO_VALUE;
-    };
-    let status = state.remove_unwinder(unwinder);
-    session.put(alloc, state);
-    status
+    session.call(alloc, &mut RemoveUnwinder { unwinder })
 }
