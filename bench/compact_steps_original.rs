@@ -33,7 +33,7 @@ struct Frames {
     are_first: bool,
 }
 
-/// Reads what crates/bench_steps/src/compact/work.rt says.
+/// Reads what crates/bench_steps/src/compact.rt says.
 fn read_work(input: &[u8]) -> (Frames, Module<Vec<u8>>) {
     let number = |at: usize| u32::from_le_bytes(input[at..at + 4].try_into().expect("four bytes"));
     let frames = Frames { count: number(0), first: number(4), apart: number(8), are_first: number(12) == 1 };

@@ -8,12 +8,13 @@ import tempfile
 
 from lib.tools import TOP, give_up
 
-ARCHS = {"x86_64": "ArchX86_64", "aarch64": "ArchAarch64"}
-# Of each kind: the function that is called, the way in which modules are made, and the architectures if it is of each.
+ARCHS = {"x86_64": "X86_64", "aarch64": "Aarch64"}
+# Of each kind: the function that is called, the way in which modules are made, and the types of architectures by their names in those of
+# programs.
 KINDS = {"walks": ("run", "Plain", ARCHS), "tables": ("run", "Tabulated", ARCHS), "compact_steps": ("run_compact", None, ARCHS),
-         "caches": ("run_caches", None, {"x86_64": ARCHS["x86_64"]}), "pe": ("run_pe", None, None),
-         "frames": ("run_frames", None, None)}
-NAMES = [f"bench_{kind}{arch}" for kind, (*_, archs) in KINDS.items() for arch in ([f"_{arch}" for arch in archs] if archs else [""])]
+         "caches": ("run_caches", None, {"x86_64": ARCHS["x86_64"]}), "pe": ("run_pe", None, {"": ARCHS["x86_64"]}),
+         "frames": ("run_frames", None, {"": None})}
+NAMES = ["_".join(filter(None, ["bench", kind, arch])) for kind, (*_, archs) in KINDS.items() for arch in archs]
 BUILT = TOP / "crates/bench_walks/out"
 
 
@@ -26,12 +27,12 @@ def parts_of(name):
 def main_of(name):
     """The text of a program's main file."""
     kind, arch = parts_of(name)
-    call, way, _ = KINDS[kind]
-    names = f"{{{way}, {call}}}" if way else call
-    types = ", ".join(filter(None, [ARCHS.get(arch), way, "HostRuntime"]))
-    imports = [f"use bench_steps::{names};", *([f"use framehop::{arch}::{ARCHS[arch]};"] if arch else [])]
-    return "\n".join([f"//! Times {kind.replace('_', ' ')}{f' of {arch}' if arch else ''}.", "#![tactic(auto)]", "", "use anyhow::Result;", *imports, "",
-                      "fn main(rt: HostRuntime) -> Result<()> {", f"    {call}::<{types}>(&rt)", "}", ""])
+    call, way, archs = KINDS[kind]
+    types = list(filter(None, [archs[arch], way]))
+    names = f"{{{', '.join([*sorted(types), call])}}}" if types else call
+    return "\n".join([f"//! Times {kind.replace('_', ' ')}{f' of {arch}' if arch else ''}.", "#![tactic(auto)]", "", "use anyhow::Result;",
+                      f"use bench_steps::{names};", "", "fn main(rt: HostRuntime) -> Result<()> {",
+                      f"    {call}::<{', '.join([*types, 'HostRuntime'])}>(&rt)", "}", ""])
 
 
 def stored_of(name):
@@ -46,7 +47,7 @@ def build(name):
         copy = pathlib.Path(room)
         shutil.copytree(TOP / "crates", copy / "crates", ignore=shutil.ignore_patterns("out", "data"))
         shutil.copy(TOP / "HANDLES", copy)
-        (copy / "crates.txt").write_text((TOP / "crates.txt").read_text() + f"{name}: bench_steps framehop anyhow\n")
+        (copy / "crates.txt").write_text((TOP / "crates.txt").read_text() + f"{name}: bench_steps anyhow\n")
         folder = copy / "crates" / name
         (folder / "src").mkdir(parents=True)
         (folder / "src/main.rt").write_text(main_of(name))

@@ -2,16 +2,15 @@
 
 mod passes;
 
+use crate::work::read_input;
 use anyhow::Result;
 use dwarf_frame_entries::{
-    BaseAddresses, EhFrame, FrameDescriptionEntry, UnwindContext, UnwindContextStorage,
-    UnwindSection,
+    BaseAddresses, EhFrame, UnwindContext, UnwindContextStorage, UnwindSection,
 };
 use dwarf_frame_rows::StoreOnHeap;
 use dwarf_readers::{LittleEndian, Reader};
-use passes::{Tally, keep_fdes, list_entries, list_fdes, list_rows};
+use passes::{Fdes, Tally, keep_fdes, list_entries, list_fdes, list_rows};
 use std::env;
-use std::io::Read;
 use std::rt::{Clock, Env};
 use std::time::{Duration, Instant};
 
@@ -22,8 +21,7 @@ const START: u64 = 1 << 32;
 /// their CIEs and how many rows, each with a sum of some of their parts. With the argument `time` and a number n it makes each of the
 /// three passes n times, in turn, and prints the least nanoseconds of each.
 pub fn run_frames<Rt: AllocGlobal + Input + Print + Env + Clock>(rt: &Rt) -> Result<()> {
-    let mut input = Vec::new(rt.alloc());
-    rt.reader().read_to_end(&mut input)?;
+    let input = read_input(rt)?;
     let rounds: u32 = match env::args(rt)?.nth(2) {
         Some(count) => count.parse()?,
         None => 0,
@@ -39,7 +37,8 @@ pub fn print_frames_of<Rt: AllocGlobal + Print + Clock>(
 ) -> Result<()> {
     let section = EhFrame::new(input, LittleEndian);
     let mut context: UnwindContext<usize, StoreOnHeap> = UnwindContext::new(rt.alloc())?;
-    print_passes(rt, &section, &mut context, rounds)
+    let mut fdes = Fdes::new(rt.alloc());
+    print_passes(rt, &section, &mut fdes, &mut context, rounds)
 }
 
 /// What a pass came to, and the least time that it took.
@@ -47,6 +46,14 @@ pub fn print_frames_of<Rt: AllocGlobal + Print + Clock>(
 struct Pass {
     tally: Tally,
     least: Duration,
+}
+
+/// What the three passes came to.
+#[derive(Clone, Copy)]
+struct AllPasses {
+    entries: Pass,
+    fdes: Pass,
+    rows: Pass,
 }
 
 impl Pass {
@@ -76,26 +83,44 @@ impl Pass {
     }
 }
 
-/// Makes the passes once, or in turn as often as asked for, and prints what they came to.
+/// Makes the passes once, or in turn as often as asked for.
+fn make_passes<R: Reader, Section: UnwindSection<R>, S: UnwindContextStorage<R::Offset>>(
+    clock: &impl Clock,
+    section: &Section,
+    bases: &BaseAddresses,
+    fdes: &Fdes<R>,
+    context: &mut UnwindContext<R::Offset, S>,
+    rounds: u32,
+) -> Result<AllPasses> {
+    let mut passes = AllPasses {
+        entries: Pass::new(),
+        fdes: Pass::new(),
+        rows: Pass::new(),
+    };
+    for _ in 0..rounds.max(1) {
+        pass_entries(clock, section, bases, &mut passes.entries)?;
+        pass_fdes(clock, section, bases, &mut passes.fdes)?;
+        pass_rows(clock, section, bases, fdes, context, &mut passes.rows)?;
+    }
+    Ok(passes)
+}
+
+/// Keeps the FDEs, makes the passes, and prints what they came to.
 fn print_passes<
     R: Reader,
     Section: UnwindSection<R>,
     S: UnwindContextStorage<R::Offset>,
-    Rt: AllocGlobal + Print + Clock,
+    Rt: Print + Clock,
 >(
     rt: &Rt,
     section: &Section,
+    fdes: &mut Fdes<R>,
     context: &mut UnwindContext<R::Offset, S>,
     rounds: u32,
 ) -> Result<()> {
     let bases = BaseAddresses::default().set_eh_frame(START);
-    let kept = keep_fdes(rt.alloc(), section, &bases)?;
-    let mut passes = [Pass::new(); 3];
-    for _ in 0..rounds.max(1) {
-        pass_entries(rt, section, &bases, &mut passes[0])?;
-        pass_fdes(rt, section, &bases, &mut passes[1])?;
-        pass_rows(rt, section, &bases, &kept, context, &mut passes[2])?;
-    }
+    keep_fdes(fdes, section, &bases)?;
+    let passes = make_passes(rt, section, &bases, fdes, context, rounds)?;
     print_all(rt, passes, rounds > 0)
 }
 
@@ -125,7 +150,7 @@ fn pass_rows<R: Reader, Section: UnwindSection<R>, S: UnwindContextStorage<R::Of
     clock: &impl Clock,
     section: &Section,
     bases: &BaseAddresses,
-    fdes: &[FrameDescriptionEntry<R>],
+    fdes: &Fdes<R>,
     context: &mut UnwindContext<R::Offset, S>,
     pass: &mut Pass,
 ) -> Result<()> {
@@ -134,9 +159,8 @@ fn pass_rows<R: Reader, Section: UnwindSection<R>, S: UnwindContextStorage<R::Of
     pass.end(clock, start, tally)
 }
 
-fn print_all(rt: &impl Print, passes: [Pass; 3], is_timed: bool) -> Result<()> {
-    let [entries, fdes, rows] = passes;
-    entries.print(rt, "entries", is_timed)?;
-    fdes.print(rt, "FDEs", is_timed)?;
-    rows.print(rt, "rows", is_timed)
+fn print_all(rt: &impl Print, passes: AllPasses, is_timed: bool) -> Result<()> {
+    passes.entries.print(rt, "entries", is_timed)?;
+    passes.fdes.print(rt, "FDEs", is_timed)?;
+    passes.rows.print(rt, "rows", is_timed)
 }

@@ -11,34 +11,39 @@ mod compact;
 mod frames;
 mod modules;
 mod pe;
+mod steps;
 mod timing;
 mod work;
 
 use anyhow::Result;
-pub use arch::TimedArch;
+pub use arch::{Aarch64, TimedCache, TimedRegs, X86_64};
 pub use caches::{print_caches, run_caches};
 pub use compact::{print_compact, run_compact};
+use framehop::ModuleUnwinding;
 pub use frames::{print_frames_of, run_frames};
 use modules::parts_of;
-pub use modules::{Making, Parts, Plain, Tabulated};
+pub use modules::{Making, Parts, Plain, Tabulated, TimedData, TimedModule};
 pub use pe::{print_pe, run_pe};
 use std::env;
-use std::io::Read;
 use std::rt::{Clock, Env};
 use timing::{frames_of_all, time};
-use work::read_work;
 pub use work::{FirstRegisters, Header, Stack, Walk, Work};
+use work::{read_input, read_work};
 
 /// Reads from standard input what is said at `read_work`, and prints how many frames the walks give. With the argument `time` it
 /// also prints the least nanoseconds of all rounds: of a module, of all walks through one cache that has seen them before, and of
 /// all walks with a new cache each, without and with the making of the caches. With `made` it prints a line before the module is
 /// made and one while it is there instead, for counting the memory that it takes. Fails if the input ends too soon, if reading or
 /// writing fails, or if it fails to allocate.
-pub fn run<A: TimedArch, M: Making, R: AllocGlobal + Input + Print + Env + Clock>(
-    rt: &R,
-) -> Result<()> {
-    let mut input = Vec::new(rt.alloc());
-    rt.reader().read_to_end(&mut input)?;
+pub fn run<
+    A: ModuleUnwinding<UnwindData = TimedData>,
+    M: Making,
+    R: AllocGlobal + Input + Print + Env + Clock,
+>(rt: &R) -> Result<()>
+where
+    A::UnwindRegs: TimedRegs,
+{
+    let input = read_input(rt)?;
     let mode = match env::args(rt)?.nth(1) {
         Some(mode) => mode,
         None => String::new(rt.alloc()),
@@ -47,33 +52,43 @@ pub fn run<A: TimedArch, M: Making, R: AllocGlobal + Input + Print + Env + Clock
 }
 
 /// Prints the same of an input, as the argument says.
-pub fn print_walks<A: TimedArch, M: Making, R: AllocGlobal + Print + Clock>(
-    rt: &R,
-    input: &[u8],
-    mode: &str,
-) -> Result<()> {
+pub fn print_walks<
+    A: ModuleUnwinding<UnwindData = TimedData>,
+    M: Making,
+    R: AllocGlobal + Print + Clock,
+>(rt: &R, input: &[u8], mode: &str) -> Result<()>
+where
+    A::UnwindRegs: TimedRegs,
+{
     let work = read_work(rt.alloc(), input)?;
     match mode {
-        "made" => print_made::<A, M, R>(rt, &work),
+        "made" => print_made::<A::UnwindRegs, M, R>(rt, &work),
         "time" => print_times::<A, M, R>(rt, &work),
         _ => print_frames::<A, M, R>(rt, &work),
     }
 }
 
 // How many frames the walks give.
-fn print_frames<A: TimedArch, M: Making, R: AllocGlobal + Print>(
+fn print_frames<A: ModuleUnwinding<UnwindData = TimedData>, M: Making, R: AllocGlobal + Print>(
     rt: &R,
     work: &Work,
-) -> Result<()> {
+) -> Result<()>
+where
+    A::UnwindRegs: TimedRegs,
+{
     println!(rt; "{} frames", frames_of_all::<A, M>(rt.alloc(), work)?)?;
     Ok(())
 }
 
 // The same, and the times.
-fn print_times<A: TimedArch, M: Making, R: AllocGlobal + Print + Clock>(
-    rt: &R,
-    work: &Work,
-) -> Result<()> {
+fn print_times<
+    A: ModuleUnwinding<UnwindData = TimedData>,
+    M: Making,
+    R: AllocGlobal + Print + Clock,
+>(rt: &R, work: &Work) -> Result<()>
+where
+    A::UnwindRegs: TimedRegs,
+{
     print_frames::<A, M, R>(rt, work)?;
     let times = time::<A, M>(rt, rt.alloc(), work)?;
     println!(rt;
@@ -87,10 +102,13 @@ fn print_times<A: TimedArch, M: Making, R: AllocGlobal + Print + Clock>(
 }
 
 // A line before the module is made, and one while it is there.
-fn print_made<A: TimedArch, M: Making, R: AllocGlobal + Print>(rt: &R, work: &Work) -> Result<()> {
+fn print_made<Regs: TimedRegs, M: Making, R: AllocGlobal + Print>(
+    rt: &R,
+    work: &Work,
+) -> Result<()> {
     let parts = parts_of(rt.alloc(), work)?;
     println!(rt; "parts")?;
-    let module = M::module_of::<A>(rt.alloc(), work, parts)?;
+    let module = M::module_of::<Regs>(rt.alloc(), work, parts)?;
     println!(rt; "module {}", module.name())?;
     Ok(())
 }

@@ -1,16 +1,31 @@
 //! The modules that are timed.
 
-use crate::arch::TimedArch;
+use crate::arch::TimedRegs;
 use crate::work::Work;
 use anyhow::Result;
-use framehop::{ExplicitModuleSectionInfo, LoadOptions, Module, load_module};
+use framehop::{
+    ExplicitModuleSectionInfo, LoadOptions, Module, ModuleSectionInfo, ModuleUnwindData, TableArch,
+    load_module,
+};
 use std::alloc::Global;
+use std::ops::Range;
+
+/// What a module is unwound by that owns its bytes.
+pub type TimedData = ModuleUnwindData<Vec<u8>>;
+
+/// A module that owns its bytes.
+pub type TimedModule = Module<Vec<u8>>;
 
 /// What the module that is timed is made of: its name, and its section with its header, if it has one.
 #[derive(Drop)]
 pub struct Parts {
     pub name: String,
     pub info: ExplicitModuleSectionInfo<Vec<u8>>,
+}
+
+/// The name of a module.
+pub fn new_name(alloc: Global) -> Result<String> {
+    Ok(String::from_str(alloc, "timed")?)
 }
 
 /// The parts of a module of their own.
@@ -29,49 +44,52 @@ pub fn parts_of(alloc: Global, work: &Work) -> Result<Parts> {
         ..Default::default()
     };
     Ok(Parts {
-        name: String::from_str(alloc, "timed")?,
+        name: new_name(alloc)?,
         info,
     })
 }
 
+/// A module at addresses, the first of which is its base, with a table of rules if one is made for an architecture.
+pub fn load_at<I: ModuleSectionInfo<Vec<u8>> + Drop>(
+    alloc: Global,
+    name: String,
+    range: Range<u64>,
+    info: I,
+    tables: Option<TableArch>,
+) -> Result<TimedModule> {
+    let base = range.start;
+    let options = LoadOptions {
+        tables,
+        ..Default::default()
+    };
+    Ok(load_module(alloc, name, range, base, info, options)?)
+}
+
 /// How the module that is timed is made. A program has one way alone, so that it has no code of another.
 pub trait Making {
-    /// The module of these parts.
-    fn module_of<A: TimedArch>(alloc: Global, work: &Work, parts: Parts) -> Result<Module<Vec<u8>>>;
+    /// The module of these parts, on the architecture with the registers `R`.
+    fn module_of<R: TimedRegs>(alloc: Global, work: &Work, parts: Parts) -> Result<TimedModule>;
 }
 
 /// A module is made with its header, or with an index if it has none.
-#[derive(Debug, Clone, Copy)]
+#[derive(Clone, Copy)]
 pub struct Plain;
 
 impl Making for Plain {
-    fn module_of<A: TimedArch>(
-        alloc: Global,
-        work: &Work,
-        parts: Parts,
-    ) -> Result<Module<Vec<u8>>> {
+    fn module_of<R: TimedRegs>(alloc: Global, work: &Work, parts: Parts) -> Result<TimedModule> {
         let Parts { name, info } = parts;
-        let options = LoadOptions::default();
-        Ok(load_module(alloc, name, work.base..work.end, work.base, info, options)?)
+        load_at(alloc, name, work.base..work.end, info, None)
     }
 }
 
 /// A module is made with a table of rules. A header isn't used.
-#[derive(Debug, Clone, Copy)]
+#[derive(Clone, Copy)]
 pub struct Tabulated;
 
 impl Making for Tabulated {
-    fn module_of<A: TimedArch>(
-        alloc: Global,
-        work: &Work,
-        parts: Parts,
-    ) -> Result<Module<Vec<u8>>> {
+    fn module_of<R: TimedRegs>(alloc: Global, work: &Work, parts: Parts) -> Result<TimedModule> {
         let Parts { name, info } = parts;
-        let options = LoadOptions {
-            tables: Some(A::table_arch()),
-            ..Default::default()
-        };
-        let range = work.base..work.end;
-        Ok(load_module(alloc, name, range, work.base, info, options)?)
+        let tables = Some(R::table_arch());
+        load_at(alloc, name, work.base..work.end, info, tables)
     }
 }

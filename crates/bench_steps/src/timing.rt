@@ -1,27 +1,15 @@
 //! How long the making of a module and walks through its code take, by the clock of the machine.
 
-use crate::arch::TimedArch;
-use crate::modules::{Making, Parts, parts_of};
+use crate::arch::{TimedRegs, new_cache, unwinder_with};
+use crate::modules::{Making, Parts, TimedData, parts_of};
 use crate::work::{Walk, Work};
-use anyhow::{Result, bail};
-use framehop::{
-    Arch, BySections, Cache, DwarfUnwindContext, Generations, MayAllocateDuringUnwind, Module,
-    Unwinder, UnwinderInternal,
-};
+use anyhow::Result;
+use framehop::{ModuleUnwinding, Unwinder, UnwinderInternal};
 use std::alloc::Global;
 use std::time::{Clock, Duration, Instant};
 
-/// An unwinder of an architecture, whose modules own their bytes.
-pub type TimedUnwinder<A> = UnwinderInternal<BySections<A, Vec<u8>, MayAllocateDuringUnwind>>;
-
-/// What its steps keep and reuse.
-pub type TimedCache<A> = Cache<
-    <A as Arch>::UnwindRule,
-    DwarfUnwindContext<MayAllocateDuringUnwind>,
->;
-
 /// The least times of all rounds.
-#[derive(Debug, Clone, Copy)]
+#[derive(Clone, Copy)]
 pub struct Times {
     pub module: Duration,
     pub warm: Duration,
@@ -29,46 +17,19 @@ pub struct Times {
     pub with_making: Duration,
 }
 
-/// Loads a module in an unwinder.
-fn load<U: Unwinder<Module = Module<Vec<u8>>>>(
-    unwinder: &mut U,
-    generations: &mut Generations,
-    module: Module<Vec<u8>>,
-) -> Result<()> {
-    if unwinder.add_module(generations, module).is_err() {
-        bail!("the module was not loaded");
-    }
-    Ok(())
-}
-
 /// An unwinder with the module that is timed.
-pub fn unwinder_of<A: TimedArch, M: Making>(
+pub fn unwinder_of<A: ModuleUnwinding<UnwindData = TimedData>, M: Making>(
     alloc: Global,
     work: &Work,
-) -> Result<TimedUnwinder<A>> {
-    unwinder_with(
-        alloc,
-        M::module_of::<A>(alloc, work, parts_of(alloc, work)?)?,
-    )
+) -> Result<UnwinderInternal<A>>
+where
+    A::UnwindRegs: TimedRegs,
+{
+    let parts = parts_of(alloc, work)?;
+    unwinder_with(alloc, M::module_of::<A::UnwindRegs>(alloc, work, parts)?)
 }
 
-/// An unwinder with a module.
-pub fn unwinder_with<A: TimedArch>(
-    alloc: Global,
-    module: Module<Vec<u8>>,
-) -> Result<TimedUnwinder<A>> {
-    let mut generations = Generations::new();
-    let mut unwinder = UnwinderInternal::new(alloc, &mut generations)?;
-    load(&mut unwinder, &mut generations, module)?;
-    Ok(unwinder)
-}
-
-/// A new cache.
-pub fn new_cache<A: TimedArch>(alloc: Global) -> Result<TimedCache<A>> {
-    Ok(Cache::new(alloc, DwarfUnwindContext::new(alloc)?)?)
-}
-
-/// How many frames a walk gives.
+// How many frames a walk gives.
 fn frames_of<U: Unwinder>(
     unwinder: &U,
     cache: &mut U::Cache,
@@ -88,50 +49,89 @@ fn frames_of<U: Unwinder>(
 }
 
 /// How many frames all walks give through one cache.
-pub fn frames_of_each<A: TimedArch, U: Unwinder<UnwindRegs = A::UnwindRegs>>(
-    unwinder: &U,
-    cache: &mut U::Cache,
-    walks: &[Walk],
-) -> u32 {
+pub fn frames_of_each<U: Unwinder>(unwinder: &U, cache: &mut U::Cache, walks: &[Walk]) -> u32
+where
+    U::UnwindRegs: TimedRegs,
+{
     let mut count: u32 = 0;
     for walk in walks {
-        let regs = A::registers(walk.first);
+        let regs = U::UnwindRegs::of(walk.first);
         count = count.wrapping_add(frames_of(unwinder, cache, regs, walk));
     }
     count
 }
 
 /// How many frames all walks give.
-pub fn frames_of_all<A: TimedArch, M: Making>(alloc: Global, work: &Work) -> Result<u32> {
+pub fn frames_of_all<A: ModuleUnwinding<UnwindData = TimedData>, M: Making>(
+    alloc: Global,
+    work: &Work,
+) -> Result<u32>
+where
+    A::UnwindRegs: TimedRegs,
+{
     let unwinder = unwinder_of::<A, M>(alloc, work)?;
     let mut cache = new_cache::<A>(alloc)?;
-    Ok(frames_of_each::<A, TimedUnwinder<A>>(&unwinder, &mut cache, &work.walks))
+    Ok(frames_of_each(&unwinder, &mut cache, &work.walks))
 }
 
-/// How long all walks with a new cache each take, without and with the making of the caches.
-fn fresh_walks<A: TimedArch>(
+/// The least time of all walks through one cache, of as many turns as there are rounds.
+pub fn seen_walks<U: Unwinder>(
+    clock: &impl Clock,
+    unwinder: &U,
+    cache: &mut U::Cache,
+    work: &Work,
+) -> Result<Duration>
+where
+    U::UnwindRegs: TimedRegs,
+{
+    let mut least = Duration::MAX;
+    for _ in 0..work.rounds {
+        let start = Instant::now(clock)?;
+        frames_of_each(unwinder, cache, &work.walks);
+        least = least.min(start.elapsed(clock)?);
+    }
+    Ok(least)
+}
+
+// How long all walks with a new cache each take, with the making of the caches.
+fn made_walks<A: ModuleUnwinding>(
     clock: &impl Clock,
     alloc: Global,
-    unwinder: &TimedUnwinder<A>,
+    unwinder: &UnwinderInternal<A>,
     walks: &[Walk],
-) -> Result<(Duration, Duration)> {
-    let all = Instant::now(clock)?;
+) -> Result<Duration>
+where
+    A::UnwindRegs: TimedRegs,
+{
+    let start = Instant::now(clock)?;
     for walk in walks {
         let mut cache = new_cache::<A>(alloc)?;
-        frames_of(unwinder, &mut cache, A::registers(walk.first), walk);
+        frames_of(unwinder, &mut cache, A::UnwindRegs::of(walk.first), walk);
     }
-    let with_making = all.elapsed(clock)?;
+    Ok(start.elapsed(clock)?)
+}
+
+// How long all walks with a new cache each take, without the making of the caches.
+fn fresh_walks<A: ModuleUnwinding>(
+    clock: &impl Clock,
+    alloc: Global,
+    unwinder: &UnwinderInternal<A>,
+    walks: &[Walk],
+) -> Result<Duration>
+where
+    A::UnwindRegs: TimedRegs,
+{
     let mut fresh = Duration::ZERO;
     for walk in walks {
         let mut cache = new_cache::<A>(alloc)?;
         let start = Instant::now(clock)?;
-        frames_of(unwinder, &mut cache, A::registers(walk.first), walk);
+        frames_of(unwinder, &mut cache, A::UnwindRegs::of(walk.first), walk);
         fresh = fresh.saturating_add(start.elapsed(clock)?);
     }
-    Ok((fresh, with_making))
+    Ok(fresh)
 }
 
-/// The parts of as many modules as there are rounds.
+// The parts of as many modules as there are rounds.
 fn parts_of_all(alloc: Global, work: &Work) -> Result<Vec<Parts>> {
     let mut all = Vec::new(alloc);
     for _ in 0..work.rounds {
@@ -140,8 +140,8 @@ fn parts_of_all(alloc: Global, work: &Work) -> Result<Vec<Parts>> {
     Ok(all)
 }
 
-/// The least time of making the module of its parts, as often as there are rounds, one directly after the other.
-fn making<A: TimedArch, M: Making>(
+// The least time of making the module of its parts, as often as there are rounds, one directly after the other.
+fn making<R: TimedRegs, M: Making>(
     clock: &impl Clock,
     alloc: Global,
     work: &Work,
@@ -149,34 +149,53 @@ fn making<A: TimedArch, M: Making>(
     let mut least = Duration::MAX;
     for parts in parts_of_all(alloc, work)? {
         let start = Instant::now(clock)?;
-        let _module = M::module_of::<A>(alloc, work, parts)?;
+        let _module = M::module_of::<R>(alloc, work, parts)?;
         least = least.min(start.elapsed(clock)?);
     }
     Ok(least)
 }
 
+// The least times of all walks.
+fn time_walks<A: ModuleUnwinding>(
+    clock: &impl Clock,
+    alloc: Global,
+    unwinder: &UnwinderInternal<A>,
+    work: &Work,
+    times: &mut Times,
+) -> Result<()>
+where
+    A::UnwindRegs: TimedRegs,
+{
+    let mut cache = new_cache::<A>(alloc)?;
+    frames_of_each(unwinder, &mut cache, &work.walks);
+    for _ in 0..work.rounds {
+        let start = Instant::now(clock)?;
+        frames_of_each(unwinder, &mut cache, &work.walks);
+        times.warm = times.warm.min(start.elapsed(clock)?);
+        let with_making = made_walks(clock, alloc, unwinder, &work.walks)?;
+        times.with_making = times.with_making.min(with_making);
+        let fresh = fresh_walks(clock, alloc, unwinder, &work.walks)?;
+        times.fresh = times.fresh.min(fresh);
+    }
+    Ok(())
+}
+
 /// Makes the module and all walks as often as there are rounds.
-pub fn time<A: TimedArch, M: Making>(
+pub fn time<A: ModuleUnwinding<UnwindData = TimedData>, M: Making>(
     clock: &impl Clock,
     alloc: Global,
     work: &Work,
-) -> Result<Times> {
+) -> Result<Times>
+where
+    A::UnwindRegs: TimedRegs,
+{
     let mut times = Times {
-        module: making::<A, M>(clock, alloc, work)?,
+        module: making::<A::UnwindRegs, M>(clock, alloc, work)?,
         warm: Duration::MAX,
         fresh: Duration::MAX,
         with_making: Duration::MAX,
     };
     let unwinder = unwinder_of::<A, M>(alloc, work)?;
-    let mut cache = new_cache::<A>(alloc)?;
-    frames_of_each::<A, TimedUnwinder<A>>(&unwinder, &mut cache, &work.walks);
-    for _ in 0..work.rounds {
-        let start = Instant::now(clock)?;
-        frames_of_each::<A, TimedUnwinder<A>>(&unwinder, &mut cache, &work.walks);
-        times.warm = times.warm.min(start.elapsed(clock)?);
-        let (fresh, with_making) = fresh_walks(clock, alloc, &unwinder, &work.walks)?;
-        times.fresh = times.fresh.min(fresh);
-        times.with_making = times.with_making.min(with_making);
-    }
+    time_walks(clock, alloc, &unwinder, work, &mut times)?;
     Ok(times)
 }

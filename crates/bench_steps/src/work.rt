@@ -1,8 +1,15 @@
 //! What is timed: a module's section, and walks from first frames over stacks.
 
-use anyhow::Result;
-use dwarf_readers::{EndianSlice, LittleEndian, Reader};
+use anyhow::{Result, bail};
+use dwarf_endianity::{Endianity, LittleEndian};
 use std::alloc::Global;
+use std::io::Read;
+
+/// The bytes of an input that are left to be read.
+#[derive(Clone, Copy)]
+pub struct Bytes<'a> {
+    pub left: &'a [u8],
+}
 
 /// Words of a stack, eight bytes each, the first of them at the start.
 #[derive(Drop)]
@@ -23,7 +30,7 @@ impl Stack {
 }
 
 /// The registers of a first frame.
-#[derive(Debug, Clone, Copy)]
+#[derive(Clone, Copy)]
 pub struct FirstRegisters {
     /// The instruction pointer on x86_64, the link register on aarch64.
     pub code: u64,
@@ -62,74 +69,105 @@ pub struct Work {
     pub section: Vec<u8>,
 }
 
+/// What is on standard input.
+pub fn read_input<R: AllocGlobal + Input>(rt: &R) -> Result<Vec<u8>> {
+    let mut input = Vec::new(rt.alloc());
+    rt.reader().read_to_end(&mut input)?;
+    Ok(input)
+}
+
+/// Reads a number of four bytes, the low byte first.
+pub fn read_u32(bytes: &mut Bytes<'_>) -> Result<u32> {
+    if bytes.left.len() < 4 {
+        bail!("the input ends too soon");
+    }
+    let number = LittleEndian.read_u32(bytes.left);
+    bytes.left = &bytes.left[4..];
+    Ok(number)
+}
+
+/// Reads a number of eight bytes, the low byte first.
+pub fn read_u64(bytes: &mut Bytes<'_>) -> Result<u64> {
+    if bytes.left.len() < 8 {
+        bail!("the input ends too soon");
+    }
+    let number = LittleEndian.read_u64(bytes.left);
+    bytes.left = &bytes.left[8..];
+    Ok(number)
+}
+
+/// Reads so many bytes.
+pub fn read_bytes(alloc: Global, bytes: &mut Bytes<'_>, count: u32) -> Result<Vec<u8>> {
+    if count as usize > bytes.left.len() {
+        bail!("the input ends too soon");
+    }
+    let (read, left) = bytes.left.split_at(count as usize);
+    bytes.left = left;
+    Ok(read.to_vec(alloc)?)
+}
+
 /// Reads what is to be timed: the rounds, the module's base and its end, and the addresses of `.text` and `.eh_frame` as the
 /// module's sections have them; the number of walks, and of each the instruction pointer, this again or on aarch64 the link
 /// register, the stack pointer, the frame pointer, the bits of a code address, the most frames, and its stack's start, number
 /// of words, and words; the address of `.eh_frame_hdr`, its number of bytes, 0 if there is none, and these; and then the
 /// bytes of `.eh_frame`. Rounds, counts and limits have four bytes, all else eight, the low byte first.
-pub fn read_work(alloc: Global, bytes: &[u8]) -> Result<Work> {
-    let mut reader = EndianSlice::new(bytes, LittleEndian);
-    let rounds = reader.read_u32()?;
-    let base = reader.read_u64()?;
-    let end = reader.read_u64()?;
-    let text = reader.read_u64()?;
-    let eh_frame = reader.read_u64()?;
-    let count = reader.read_u32()?;
-    let mut walks = Vec::new(alloc);
-    for _ in 0..count {
-        walks.push(read_walk(alloc, &mut reader)?)?;
-    }
-    let header = read_header(alloc, &mut reader)?;
-    let section = reader.slice().to_vec(alloc)?;
+pub fn read_work(alloc: Global, input: &[u8]) -> Result<Work> {
+    let mut bytes = Bytes { left: input };
     Ok(Work {
-        rounds,
-        base,
-        end,
-        text,
-        eh_frame,
-        walks,
-        header,
-        section,
+        rounds: read_u32(&mut bytes)?,
+        base: read_u64(&mut bytes)?,
+        end: read_u64(&mut bytes)?,
+        text: read_u64(&mut bytes)?,
+        eh_frame: read_u64(&mut bytes)?,
+        walks: read_walks(alloc, &mut bytes)?,
+        header: read_header(alloc, &mut bytes)?,
+        section: bytes.left.to_vec(alloc)?,
     })
 }
 
-fn read_header(
-    alloc: Global,
-    reader: &mut EndianSlice<'_, LittleEndian>,
-) -> Result<Option<Header>> {
-    let start = reader.read_u64()?;
-    let length = reader.read_u32()?;
+fn read_walks(alloc: Global, bytes: &mut Bytes<'_>) -> Result<Vec<Walk>> {
+    let mut walks = Vec::new(alloc);
+    for _ in 0..read_u32(bytes)? {
+        walks.push(read_walk(alloc, bytes)?)?;
+    }
+    Ok(walks)
+}
+
+fn read_header(alloc: Global, bytes: &mut Bytes<'_>) -> Result<Option<Header>> {
+    let start = read_u64(bytes)?;
+    let length = read_u32(bytes)?;
     if length == 0 {
         return Ok(None);
     }
-    let bytes = reader.split(length as usize)?.slice().to_vec(alloc)?;
-    Ok(Some(Header { start, bytes }))
+    Ok(Some(Header {
+        start,
+        bytes: read_bytes(alloc, bytes, length)?,
+    }))
 }
 
-fn read_walk(alloc: Global, reader: &mut EndianSlice<'_, LittleEndian>) -> Result<Walk> {
+fn read_walk(alloc: Global, bytes: &mut Bytes<'_>) -> Result<Walk> {
     Ok(Walk {
-        pc: reader.read_u64()?,
-        first: read_registers(reader)?,
-        limit: reader.read_u32()?,
-        stack: read_stack(alloc, reader)?,
+        pc: read_u64(bytes)?,
+        first: read_registers(bytes)?,
+        limit: read_u32(bytes)?,
+        stack: read_stack(alloc, bytes)?,
     })
 }
 
-fn read_registers(reader: &mut EndianSlice<'_, LittleEndian>) -> Result<FirstRegisters> {
+fn read_registers(bytes: &mut Bytes<'_>) -> Result<FirstRegisters> {
     Ok(FirstRegisters {
-        code: reader.read_u64()?,
-        sp: reader.read_u64()?,
-        fp: reader.read_u64()?,
-        mask: reader.read_u64()?,
+        code: read_u64(bytes)?,
+        sp: read_u64(bytes)?,
+        fp: read_u64(bytes)?,
+        mask: read_u64(bytes)?,
     })
 }
 
-fn read_stack(alloc: Global, reader: &mut EndianSlice<'_, LittleEndian>) -> Result<Stack> {
-    let start = reader.read_u64()?;
-    let count = reader.read_u32()?;
+fn read_stack(alloc: Global, bytes: &mut Bytes<'_>) -> Result<Stack> {
+    let start = read_u64(bytes)?;
     let mut words = Vec::new(alloc);
-    for _ in 0..count {
-        words.push(reader.read_u64()?)?;
+    for _ in 0..read_u32(bytes)? {
+        words.push(read_u64(bytes)?)?;
     }
     Ok(Stack { start, words })
 }

@@ -6,24 +6,41 @@
 
 use anyhow::{Result, bail};
 use bench_steps::{
-    Plain, Tabulated, print_caches, print_compact, print_frames_of, print_pe, print_walks,
+    Aarch64, Plain, Tabulated, TimedData, TimedRegs, X86_64, print_caches, print_compact,
+    print_frames_of, print_pe, print_walks,
 };
-use framehop::aarch64::ArchAarch64;
-use framehop::x86_64::ArchX86_64;
+use framehop::ModuleUnwinding;
 use std::{env, fs};
 
-// Makes the walks or steps of a file.
+// Makes the walks or steps of an input on an architecture.
+fn show_on<A: ModuleUnwinding<UnwindData = TimedData>>(
+    rt: &HostRuntime,
+    what: &str,
+    input: &[u8],
+) -> Result<()>
+where
+    A::UnwindRegs: TimedRegs,
+{
+    match what {
+        "walks" => print_walks::<A, Plain, HostRuntime>(rt, input, ""),
+        "tables" => print_walks::<A, Tabulated, HostRuntime>(rt, input, ""),
+        "compact_steps" => print_compact::<A, HostRuntime>(rt, input, false),
+        "caches" => print_caches::<A, HostRuntime>(rt, input, 1024, false),
+        _ => bail!("there is no bench of this name"),
+    }
+}
+
+// Makes the walks, steps or passes of a file.
 fn show(rt: &HostRuntime, what: &str, path: &str) -> Result<()> {
     let input = fs::read(rt, path)?;
+    if let Some(what) = what.strip_suffix("_x86_64") {
+        return show_on::<X86_64>(rt, what, &input);
+    }
+    if let Some(what) = what.strip_suffix("_aarch64") {
+        return show_on::<Aarch64>(rt, what, &input);
+    }
     match what {
-        "walks_x86_64" => print_walks::<ArchX86_64, Plain, HostRuntime>(rt, &input, ""),
-        "tables_x86_64" => print_walks::<ArchX86_64, Tabulated, HostRuntime>(rt, &input, ""),
-        "compact_steps_x86_64" => print_compact::<ArchX86_64, HostRuntime>(rt, &input, false),
-        "caches_x86_64" => print_caches::<ArchX86_64, HostRuntime>(rt, &input, 1024, false),
-        "walks_aarch64" => print_walks::<ArchAarch64, Plain, HostRuntime>(rt, &input, ""),
-        "tables_aarch64" => print_walks::<ArchAarch64, Tabulated, HostRuntime>(rt, &input, ""),
-        "compact_steps_aarch64" => print_compact::<ArchAarch64, HostRuntime>(rt, &input, false),
-        "pe" => print_pe::<HostRuntime>(rt, &input, false),
+        "pe" => print_pe::<X86_64, HostRuntime>(rt, &input, false),
         "frames" => print_frames_of::<HostRuntime>(rt, &input, 0),
         _ => bail!("there is no bench of this name"),
     }

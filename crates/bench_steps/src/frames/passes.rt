@@ -12,7 +12,7 @@ use dwarf_storage::ArrayLike;
 use std::alloc::Global;
 
 /// The result of a pass.
-#[derive(Debug, Clone, Copy, PartialEq, Eq)]
+#[derive(Clone, Copy)]
 pub struct Tally {
     /// How many there are.
     pub count: u64,
@@ -129,21 +129,41 @@ pub fn list_fdes<R: Reader, Section: UnwindSection<R>>(
     Ok(tally)
 }
 
-/// All FDEs with their CIEs.
+/// FDEs with their CIEs.
+#[derive(Drop)]
+pub struct Fdes<R: Reader> {
+    fdes: Vec<FrameDescriptionEntry<R>>,
+}
+
+impl<R: Reader> Fdes<R> {
+    /// None yet.
+    pub fn new(alloc: Global) -> Fdes<R> {
+        Fdes {
+            fdes: Vec::new(alloc),
+        }
+    }
+
+    // Keeps one.
+    fn push(&mut self, fde: FrameDescriptionEntry<R>) -> Result<()> {
+        Ok(self.fdes.push(fde)?)
+    }
+}
+
+/// Keeps all FDEs with their CIEs.
 pub fn keep_fdes<R: Reader, Section: UnwindSection<R>>(
-    alloc: Global,
+    fdes: &mut Fdes<R>,
     section: &Section,
     bases: &BaseAddresses,
-) -> Result<Vec<FrameDescriptionEntry<R>>> {
-    let mut fdes = Vec::new(alloc);
+) -> Result<()> {
     let mut last = None;
     let mut entries = section.entries(bases);
     'entries: while let Some(entry) = entries.next()? {
         if let Entry::Fde(partial) = entry {
-            fdes.push(whole_fde(section, bases, &partial, &mut last)?)?;
+            let fde = whole_fde(section, bases, &partial, &mut last)?;
+            fdes.push(fde)?;
         }
     }
-    Ok(fdes)
+    Ok(())
 }
 
 /// Some parts of a row, as one number.
@@ -178,11 +198,11 @@ fn count_rows<R: Reader, Section: UnwindSection<R>, S: UnwindContextStorage<R::O
 pub fn list_rows<R: Reader, Section: UnwindSection<R>, S: UnwindContextStorage<R::Offset>>(
     section: &Section,
     bases: &BaseAddresses,
-    fdes: &[FrameDescriptionEntry<R>],
+    fdes: &Fdes<R>,
     context: &mut UnwindContext<R::Offset, S>,
 ) -> Result<Tally> {
     let mut tally = Tally::new();
-    for fde in fdes {
+    for fde in &fdes.fdes {
         count_rows(section, bases, fde, context, &mut tally)?;
     }
     Ok(tally)
