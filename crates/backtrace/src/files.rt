@@ -1,7 +1,7 @@
 //! The files that are mapped into a core's process, as the system gives them.
 
 use crate::arguments::CoreRequest;
-use backtrace_files::{build_id_of, is_debug_file_of};
+use backtrace_files::{GivenFile, build_id_of, is_debug_file_of};
 use core_files::MappedFile;
 use elf_files::ElfFile;
 use function_index::has_symbol_table;
@@ -16,7 +16,7 @@ pub(crate) struct NamedFile<'a> {
     pub(crate) name: &'a [u8],
     /// The bytes, or why there are none.
     pub(crate) bytes: io::Result<Vec<u8>>,
-    /// The bytes of the file with its symbols, if it has none itself and there is one.
+    /// The bytes of its debug file, if it has no symbols itself and there is one.
     pub(crate) debug: Option<Vec<u8>>,
 }
 
@@ -42,7 +42,7 @@ fn read_below(rt: &HostRuntime, root: &str, name: &[u8]) -> io::Result<Vec<u8>> 
     }
 }
 
-// The bytes of the file with the symbols of one with these bytes, if this has a build id and no symbols, and there is one below a folder.
+// The bytes of the debug file of a file with these bytes, if this has a build id and no symbols, and there is one below a folder.
 fn read_debug(rt: &HostRuntime, folder: &str, bytes: &[u8]) -> Result<Option<Vec<u8>>, AllocError> {
     let Ok(elf) = ElfFile::parse(bytes) else {
         return Ok(None);
@@ -61,7 +61,7 @@ fn read_debug(rt: &HostRuntime, folder: &str, bytes: &[u8]) -> Result<Option<Vec
     }
 }
 
-// Reads the file that a core names, below a folder, and the one with its symbols, below another.
+// Reads the file that a core names, below a folder, and its debug file, below another.
 fn read_file<'a>(
     rt: &HostRuntime,
     request: &CoreRequest<'_>,
@@ -75,7 +75,7 @@ fn read_file<'a>(
     Ok(NamedFile { name, bytes, debug })
 }
 
-/// Reads the files that a core names, each once, and those with their symbols.
+/// Reads the files that a core names, each once, and their debug files.
 pub(crate) fn read_files<'a>(
     rt: &HostRuntime,
     request: &CoreRequest<'_>,
@@ -91,53 +91,47 @@ pub(crate) fn read_files<'a>(
 }
 
 impl NamedFile<'_> {
-    // Its bytes, if they could be read.
-    fn known_bytes(&self) -> Option<&[u8]> {
-        match &self.bytes {
-            Ok(bytes) => Some(bytes.as_slice()),
-            Err(_) => None,
+    // What is known of it, if it is.
+    fn given(&self) -> GivenFile<'_> {
+        GivenFile {
+            bytes: match &self.bytes {
+                Ok(bytes) => Some(bytes.as_slice()),
+                Err(_) => None,
+            },
+            debug: match &self.debug {
+                Some(bytes) => Some(bytes.as_slice()),
+                None => None,
+            },
         }
     }
 
-    // Those of the file with its symbols.
-    fn debug_bytes(&self) -> Option<&[u8]> {
-        match &self.debug {
-            Some(bytes) => Some(bytes.as_slice()),
-            None => None,
-        }
-    }
-
-    /// Whether the file with its symbols is that of another file.
+    /// Whether its debug file is that of another file.
     pub(crate) fn has_other_symbols(&self) -> bool {
-        match (self.known_bytes(), self.debug_bytes()) {
-            (Some(bytes), Some(debug)) => !is_debug_file_of(bytes, debug),
+        match self.given() {
+            GivenFile {
+                bytes: Some(bytes),
+                debug: Some(debug),
+            } => !is_debug_file_of(bytes, debug),
             _ => false,
         }
     }
 }
 
-/// The bytes of the file of each mapping, in the order of the core.
-pub(crate) fn contents_of<'f>(
+/// What is known of the file of each mapping, in the order of the core.
+pub(crate) fn given_files<'f>(
     alloc: Global,
     files: &'f [NamedFile<'_>],
     mappings: &[MappedFile<'_>],
-) -> Result<Vec<Option<&'f [u8]>>, AllocError> {
-    let mut contents = Vec::new(alloc);
+) -> Result<Vec<GivenFile<'f>>, AllocError> {
+    let mut given = Vec::new(alloc);
     for mapping in mappings {
-        contents.push(file_named(files, mapping.name).and_then(NamedFile::known_bytes))?;
+        given.push(match file_named(files, mapping.name) {
+            Some(file) => file.given(),
+            None => GivenFile {
+                bytes: None,
+                debug: None,
+            },
+        })?;
     }
-    Ok(contents)
-}
-
-/// Those of the file with its symbols.
-pub(crate) fn debug_contents_of<'f>(
-    alloc: Global,
-    files: &'f [NamedFile<'_>],
-    mappings: &[MappedFile<'_>],
-) -> Result<Vec<Option<&'f [u8]>>, AllocError> {
-    let mut contents = Vec::new(alloc);
-    for mapping in mappings {
-        contents.push(file_named(files, mapping.name).and_then(NamedFile::debug_bytes))?;
-    }
-    Ok(contents)
+    Ok(given)
 }

@@ -12,12 +12,12 @@ mod lint;
 
 use anyhow::{Context, Result, bail};
 use arguments::{CoreRequest, Request, USAGE, request_of};
-use backtrace_files::{FileContents, has_other_build_id};
+use backtrace_files::has_other_build_id;
 use backtrace_text::push_name;
 use backtrace_walks::write_stacks;
 use core_files::{CoreError, CoreFile, Thread};
 use core_parts::read_parts;
-use files::{NamedFile, contents_of, debug_contents_of, read_files};
+use files::{NamedFile, given_files, read_files};
 use json_program::Streamed;
 use lint::lint_files;
 use std::io::{BufWriter, Write};
@@ -59,21 +59,6 @@ fn has_thread(threads: &[Thread], id: u64) -> bool {
     threads.iter().any(|thread| u64::from(thread.id) == id)
 }
 
-// Prints the text of a core, by the bytes of its files and of those with their symbols.
-fn print_text(
-    rt: &HostRuntime,
-    core: &CoreFile<'_>,
-    request: &CoreRequest<'_>,
-    files: &[Option<&[u8]>],
-    debug: &[Option<&[u8]>],
-) -> Result<()> {
-    let contents = FileContents { files, debug };
-    let mut sink = Streamed::new(BufWriter::new(rt.alloc(), io::writer(rt))?);
-    write_stacks(rt.alloc(), core, &contents, &request.options, &mut sink)?;
-    sink.into_inner().flush()?;
-    Ok(())
-}
-
 // Prints the stacks of a core that was read.
 fn print_stacks(
     rt: &HostRuntime,
@@ -94,9 +79,16 @@ fn print_stacks(
     for file in &files {
         say_if_missing(rt, core, file)?;
     }
-    let contents = contents_of(rt.alloc(), files.as_slice(), core.mapped_files())?;
-    let debug = debug_contents_of(rt.alloc(), files.as_slice(), core.mapped_files())?;
-    print_text(rt, core, request, contents.as_slice(), debug.as_slice())?;
+    let given = given_files(rt.alloc(), files.as_slice(), core.mapped_files())?;
+    let mut sink = Streamed::new(BufWriter::new(rt.alloc(), io::writer(rt))?);
+    write_stacks(
+        rt.alloc(),
+        core,
+        given.as_slice(),
+        &request.options,
+        &mut sink,
+    )?;
+    sink.into_inner().flush()?;
     Ok(ExitCode::SUCCESS)
 }
 

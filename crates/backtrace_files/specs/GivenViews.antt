@@ -1,9 +1,8 @@
--- What contracts see of given bytes.
-use Rattle.std.specs.Prelude.{map}
+-- What contracts see of what is given.
 use Rattle.std.specs.Option.{option_copied}
-use Rattle.backtrace_files.specs.ProcessFiles.{Contents}
-use Rattle.backtrace_files.specs.declared.files.FileContents.{FileContents}
+use Rattle.backtrace_files.specs.ProcessFiles.{Given}
+use Rattle.backtrace_files.specs.declared.files.GivenFile.{GivenFile}
 
--- the bytes of files and of their debug files
-abbrev pub contents_seen : FileContents → Contents
-contents_seen contents = record { files = map option_copied contents.files.now; debug = map option_copied contents.debug.now }
+-- The bytes of a file and of its debug file.
+abbrev pub given_seen : GivenFile → Given
+given_seen file = record { bytes = option_copied file.bytes; debug = option_copied file.debug }

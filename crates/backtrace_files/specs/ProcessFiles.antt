@@ -16,36 +16,35 @@ kept_bytes core mapping given =
 abbrev pub kept_debug : List ℕ → Option (List ℕ) → Option (List ℕ)
 kept_debug bytes given = option_and_then (λ debug. if is_debug_file_of bytes debug then Some debug else None) given
 
--- the bytes that are given by a number
-abbrev pub given_bytes : List (Option (List ℕ)) → ℕ → Option (List ℕ)
-given_bytes contents number = option_and_then (λ bytes. bytes) (slice_get contents number)
+-- What is given of a mapped file: its bytes, and those of its debug file, as far as they are there.
+pub record Given : Type 0 where
+  pub bytes : Option (List ℕ)
+  pub debug : Option (List ℕ)
 
--- The bytes of files, by the numbers of their mappings, and those of their debug files.
-pub record Contents : Type 0 where
-  pub files : List (Option (List ℕ))
-  pub debug : List (Option (List ℕ))
+-- what is given, or nothing
+abbrev pub or_nothing : Option Given → Given
+or_nothing (Some given) = given
+or_nothing None = record { bytes = None; debug = None }
 
--- a mapping with the bytes of its file, and what is given for the debug file of this
-abbrev pub file_by : FileMapping → Option (List ℕ) → Option (List ℕ) → ProcessFile
-file_by mapping bytes given = record {
-  mapping = mapping;
-  bytes = bytes;
-  debug = option_and_then (λ known. kept_debug known given) bytes;
-}
+-- what is given by the number of a mapping
+abbrev pub given_at : List Given → ℕ → Given
+given_at given number = or_nothing (slice_get given number)
 
--- a mapping with what is given by its number
-abbrev pub file_with : CoreContents → Contents → ℕ → FileMapping → ProcessFile
-file_with core contents number mapping =
-    file_by mapping (kept_bytes core mapping (given_bytes contents.files number)) (given_bytes contents.debug number)
+-- a mapping with what is given of its file, as far as it is kept
+abbrev pub file_by : CoreContents → FileMapping → Given → ProcessFile
+file_by core mapping given =
+    let bytes = kept_bytes core mapping given.bytes in
+    record { mapping = mapping; bytes = bytes; debug = option_and_then (λ known. kept_debug known given.debug) bytes }
 
 -- mappings with what is given, which are numbered from here
-abbrev pub files_from : CoreContents → Contents → ℕ → List FileMapping → List ProcessFile
-files_from core contents number [] = []
-files_from core contents number (mapping ∷ mappings) = file_with core contents number mapping ∷ files_from core contents (number + 1) mappings
+abbrev pub files_from : CoreContents → List Given → ℕ → List FileMapping → List ProcessFile
+files_from core given number [] = []
+files_from core given number (mapping ∷ mappings) =
+    file_by core mapping (given_at given number) ∷ files_from core given (number + 1) mappings
 
 -- mappings with what is given
-abbrev pub files_with : CoreContents → Contents → List FileMapping → List ProcessFile
-files_with core contents mappings = files_from core contents 0 mappings
+abbrev pub files_with : CoreContents → List Given → List FileMapping → List ProcessFile
+files_with core given mappings = files_from core given 0 mappings
 
 -- the virtual shared object that begins at an address, with the bytes that a segment has from there on
 abbrev pub object_at : ℕ → List ℕ → ProcessFile
@@ -61,5 +60,5 @@ shared_object core =
     option_and_then (λ start. option_map (object_at start) (file_at core.segments start)) (auxiliary_value core.auxv 33)
 
 -- the mapped files, in the order of the core, and then the virtual shared object, if there is one
-abbrev pub process_files : CoreContents → Contents → List ProcessFile
-process_files core contents = files_with core contents core.files ++ option_to_list (shared_object core)
+abbrev pub process_files : CoreContents → List Given → List ProcessFile
+process_files core given = files_with core given core.files ++ option_to_list (shared_object core)

@@ -6,8 +6,8 @@ ghost use Rattle.core_files.specs.CoreViews.{contents_of};
 ghost use Rattle.core_files.specs.FileViews.{mapping_of};
 ghost use Rattle.core_files.specs.NoteViews.{mappings_of};
 ghost use Rattle.backtrace_files.specs.FileViews.{file_seen};
-ghost use Rattle.backtrace_files.specs.GivenViews.{contents_seen};
-ghost use Rattle.backtrace_files.specs.ProcessFiles.{file_by, file_with, files_with, given_bytes, kept_bytes, kept_debug, process_files, shared_object};
+ghost use Rattle.backtrace_files.specs.GivenViews.{given_seen};
+ghost use Rattle.backtrace_files.specs.ProcessFiles.{file_by, files_with, given_at, kept_bytes, kept_debug, process_files, shared_object};
 ghost use Rattle.backtrace_files.specs.Results.{IfOkAre};
 
 use crate::build_ids::{file_at, has_other_build_id, is_debug_file_of};
@@ -15,13 +15,13 @@ use crate::loaded_file::LoadedFile;
 use core_files::{CoreFile, MappedFile};
 use std::alloc::{AllocError, Global};
 
-/// The bytes of the files that are mapped into a process, as far as they are there.
+/// What is given of a file that is mapped into a process.
 #[derive(Clone, Copy, Debug)]
-pub struct FileContents<'f, 'a> {
-    /// Those of the mapped files, by the numbers of the mappings.
-    pub files: &'f [Option<&'a [u8]>],
-    /// Those of the files with their symbols, by the same numbers.
-    pub debug: &'f [Option<&'a [u8]>],
+pub struct GivenFile<'a> {
+    /// Its bytes, if they are there.
+    pub bytes: Option<&'a [u8]>,
+    /// Those of its debug file, which has its symbols, if there is one.
+    pub debug: Option<&'a [u8]>,
 }
 
 // The type of the entry of the auxiliary vector with the address of the virtual shared object.
@@ -60,47 +60,37 @@ fn kept_debug<'a>(bytes: &[u8], given: Option<&'a [u8]>) -> Option<&'a [u8]>
     }
 }
 
-// The bytes that are given by a number.
-fn given_bytes<'a>(contents: &[Option<&'a [u8]>], number: usize) -> Option<&'a [u8]>
-    ensures { option_copied result ≡ given_bytes (map option_copied contents.now) number }
+// What is given by a number, if anything is.
+fn given_at<'a>(given: &[GivenFile<'a>], number: usize) -> GivenFile<'a>
+    ensures { given_seen result ≡ given_at (map given_seen given.now) number }
 {
-    match contents.get(number) {
-        Some(bytes) => *bytes,
-        None => None,
-    }
-}
-
-// A mapping with the bytes of its file, and what is given for the debug file of this.
-fn file_by<'a>(
-    mapping: &MappedFile<'a>,
-    bytes: Option<&'a [u8]>,
-    given: Option<&'a [u8]>,
-) -> LoadedFile<'a>
-    ensures { file_seen result
-        ≡ file_by (mapping_of mapping.now) (option_copied bytes.entry) (option_copied given.entry) }
-{
-    LoadedFile {
-        mapping: *mapping,
-        bytes,
-        debug: match bytes {
-            Some(known) => kept_debug(known, given),
-            None => None,
+    match given.get(number) {
+        Some(file) => *file,
+        None => GivenFile {
+            bytes: None,
+            debug: None,
         },
     }
 }
 
-// A mapping with what is given by its number.
-fn file_with<'a>(
+// A mapping with what is given of its file, as far as it is kept.
+fn file_by<'a>(
     core: &CoreFile<'a>,
-    contents: &FileContents<'_, 'a>,
-    number: usize,
     mapping: &MappedFile<'a>,
+    given: &GivenFile<'a>,
 ) -> LoadedFile<'a>
-    ensures { file_seen result ≡ file_with (contents_of core.now)
-        (contents_seen contents.now) number (mapping_of mapping.now) }
+    ensures { file_seen result
+        ≡ file_by (contents_of core.now) (mapping_of mapping.now) (given_seen given.now) }
 {
-    let bytes = kept_bytes(core, mapping, given_bytes(contents.files, number));
-    file_by(mapping, bytes, given_bytes(contents.debug, number))
+    let bytes = kept_bytes(core, mapping, given.bytes);
+    LoadedFile {
+        mapping: *mapping,
+        bytes,
+        debug: match bytes {
+            Some(known) => kept_debug(known, given.debug),
+            None => None,
+        },
+    }
 }
 
 // Mapped files of a core in their order, with what is given by their numbers.
@@ -108,14 +98,14 @@ fn files_with<'a>(
     alloc: Global,
     core: &CoreFile<'a>,
     mappings: &[MappedFile<'a>],
-    contents: &FileContents<'_, 'a>,
+    given: &[GivenFile<'a>],
 ) -> Result<Vec<LoadedFile<'a>>, AllocError>
     ensures { IfOkAre file_seen result (files_with (contents_of core.now)
-        (contents_seen contents.now) (mappings_of mappings.now)) }
+        (map given_seen given.now) (mappings_of mappings.now)) }
 {
     let mut files = Vec::new(alloc);
     for (number, mapping) in mappings.iter().enumerate() {
-        files.push(file_with(core, contents, number, mapping))?;
+        files.push(file_by(core, mapping, &given_at(given, number)))?;
     }
     Ok(files)
 }
@@ -142,17 +132,18 @@ fn shared_object<'a>(core: &CoreFile<'a>) -> Option<LoadedFile<'a>>
     })
 }
 
-/// The files of a core's process, in the order of the core, and then the virtual shared object, if the core has it, with the bytes that are
-/// given. Those of a file with another build id than the core has are left out, and those of a debug file that hasn't its file's.
+/// The files of a core's process, in the order of the core, and then the virtual shared object, if the core has it, with what is given by
+/// the numbers of the mappings. The bytes of a file with another build id than the core has are left out, and those of a debug file that
+/// hasn't its file's.
 pub fn process_files<'a>(
     alloc: Global,
     core: &CoreFile<'a>,
-    contents: &FileContents<'_, 'a>,
+    given: &[GivenFile<'a>],
 ) -> Result<Vec<LoadedFile<'a>>, AllocError>
     ensures { IfOkAre file_seen result
-        (process_files (contents_of core.now) (contents_seen contents.now)) }
+        (process_files (contents_of core.now) (map given_seen given.now)) }
 {
-    let mut files = files_with(alloc, core, core.mapped_files(), contents)?;
+    let mut files = files_with(alloc, core, core.mapped_files(), given)?;
     if let Some(object) = shared_object(core) {
         files.push(object)?;
     }

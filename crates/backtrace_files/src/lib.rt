@@ -10,7 +10,7 @@ mod sections;
 
 pub use build_ids::{build_id_of, has_other_build_id, is_debug_file_of};
 pub use code::{LoadedCode, loaded_code};
-pub use files::{FileContents, process_files};
+pub use files::{GivenFile, process_files};
 pub use loaded_file::{LoadedFile, memory_ranges};
 pub use locations::{location_of, may_be_code_at};
 pub use sections::FileSections;

@@ -4,7 +4,7 @@ use Rattle.std.specs.List.{filter_map}
 use Rattle.std.specs.Option.{option_map}
 use Rattle.backtrace_files.specs.Files.{ProcessFile, ranges_of}
 use Rattle.backtrace_files.specs.Locations.{location_of, may_be_code_at}
-use Rattle.backtrace_files.specs.ProcessFiles.{Contents, process_files}
+use Rattle.backtrace_files.specs.ProcessFiles.{Given, process_files}
 use Rattle.backtrace_headings.specs.Headings.{Heading, heading_of, heading_text, label_of}
 use Rattle.backtrace_text.specs.Frames as seen
 use Rattle.backtrace_text.specs.Threads.{Backtrace, text_of}
@@ -168,9 +168,9 @@ abbrev pub backtraces_with : CoreContents → List ProcessFile → BacktraceOpti
 backtraces_with core files options = backtraces_on core.machine core files options
 
 -- those of a core, where the bytes of its mapped files are given
-abbrev pub core_backtraces : CoreContents → Contents → BacktraceOptions → List Backtrace
-core_backtraces core contents options = backtraces_with core (process_files core contents) options
+abbrev pub core_backtraces : CoreContents → List Given → BacktraceOptions → List Backtrace
+core_backtraces core given options = backtraces_with core (process_files core given) options
 
 -- what a core says of its process, and the text of its backtraces
-abbrev pub core_text : CoreContents → Contents → BacktraceOptions → List ℕ
-core_text core contents options = heading_text (heading_of core) ++ text_of (core_backtraces core contents options)
+abbrev pub core_text : CoreContents → List Given → BacktraceOptions → List ℕ
+core_text core given options = heading_text (heading_of core) ++ text_of (core_backtraces core given options)

@@ -1,9 +1,9 @@
 //! The text of a core's stacks.
 
-ghost use Rattle.std.specs.Prelude.{◌≡◌, false};
+ghost use Rattle.std.specs.Prelude.{◌≡◌, false, map};
 ghost use Rattle.backtrace_files.specs.FileViews.{files_seen};
 ghost use Rattle.backtrace_files.specs.Files.{ranges_of};
-ghost use Rattle.backtrace_files.specs.GivenViews.{contents_seen};
+ghost use Rattle.backtrace_files.specs.GivenViews.{given_seen};
 ghost use Rattle.backtrace_text.specs.Writes.{Writes};
 ghost use Rattle.core_files.specs.CoreViews.{contents_of};
 ghost use Rattle.core_files.specs.RangeViews.{ranges_seen};
@@ -16,7 +16,7 @@ use crate::arch::ThreadArch;
 use crate::backtraces::{BacktraceOptions, CoreProcess};
 use crate::session::session_of;
 use crate::stacks::write_threads;
-use backtrace_files::{FileContents, LoadedFile, memory_ranges, process_files};
+use backtrace_files::{GivenFile, LoadedFile, memory_ranges, process_files};
 use backtrace_headings::{heading_of, write_heading};
 use core_files::{CoreFile, MemoryRange};
 use elf_files::Machine;
@@ -80,22 +80,22 @@ fn write_with<'a, W: Sink>(
     }
 }
 
-/// Writes what a core says of its process, and then the text of its stacks, in the order of the core, of those that are asked for, by the
-/// bytes of its files that are given. Each frame is written before the next step is made, so that no more than one is kept. A call that
-/// fails has written a prefix of the text.
+/// Writes what a core says of its process, and then the text of its stacks, in the order of the core, of those that are asked for, by what
+/// is given of its files by the numbers of their mappings. Each frame is written before the next step is made, so that no more than one is
+/// kept. A call that fails has written a prefix of the text.
 pub fn write_stacks<W: Sink>(
     alloc: Global,
     core: &CoreFile<'_>,
-    contents: &FileContents<'_, '_>,
+    given: &[GivenFile<'_>],
     options: &BacktraceOptions,
     sink: &mut W,
 ) -> Result<(), RunError>
     requires { W.has_failed sink.old ≡ false }
     ensures text { Writes W.contents sink.old sink.new result
-        (core_text (contents_of core.now) (contents_seen contents.now) options.now) }
+        (core_text (contents_of core.now) (map given_seen given.now) options.now) }
     ensures errors { ReportsFailures result false (W.has_failed sink.new) }
 {
-    let loaded = process_files(alloc, core, contents)?;
+    let loaded = process_files(alloc, core, given)?;
     let heading = heading_of(core);
     write_heading(alloc, &heading, sink)?;
     write_with(alloc, core, loaded.as_slice(), options, sink)

@@ -77,6 +77,7 @@ impl SessionHandle {
             drop(kept.into_box());
         }
     }
+
     /// Makes a call on the session, if there is one.
     pub(crate) fn call<C: SessionCall>(&mut self, alloc: Global, call: &mut C) -> u32
         ensures made { DoesIn (C.does call.old call.new result) self.old.value self.new.value }

@@ -44,8 +44,8 @@ abbrev pub underscores : List ℕ → ℕ
 underscores [] = 0
 underscores (byte ∷ bytes) = if byte == 95 then 1 + underscores bytes else 0
 
--- Which of the functions is named that begin at one address, as perf chooses: the one with the greatest rank; of these, the one whose name
--- begins with the fewest underscores; of these, the one with the longest name.
+-- The order, as one number, of functions that begin at one address: the greatest has perf's choice of their names. First the binding's rank
+-- counts, then how few underscores the name begins with, then how long it is; underscores and bytes beyond 65,535 don't count.
 abbrev pub preference : Binding → List ℕ → ℕ
 preference binding name =
     binding_rank binding * 2 ^ 32 + (65535 - min (underscores name) 65535) * 2 ^ 16 + min (length name) 65535

@@ -6,8 +6,8 @@ use std::fs::File;
 use std::os::unix::fs::FileExt;
 use std::{fs, io};
 
-// How much of a file is read at once. What is read is appended to the bytes before: to make a vector longer without it takes a while for
-// each byte.
+// How much of a file is read at once, to be appended to the bytes before. `Vec::resize`, by which a vector could be read into at once,
+// fills byte by byte.
 const PIECE: usize = 1 << 14;
 
 // What an ELF file begins with.

@@ -1,7 +1,6 @@
 //! Signed return addresses on aarch64.
 
 use crate::cores::core_aarch64;
-use backtrace_files::FileContents;
 use backtrace_text::FunctionNames;
 use backtrace_walks::{BacktraceOptions, FrameOptions, write_stacks};
 use core_files::CoreFile;
@@ -37,11 +36,7 @@ fn expect(rt: &impl Abort, alloc: Global, masks: u32, expected: &str) -> Result<
         },
     };
     let mut sink = Streamed::new(Vec::new(alloc));
-    let contents = FileContents {
-        files: &[],
-        debug: &[],
-    };
-    write_stacks(alloc, &core, &contents, &options, &mut sink)?;
+    write_stacks(alloc, &core, &[], &options, &mut sink)?;
     assert!(rt; sink.into_inner().as_slice() == expected.as_bytes());
     Ok(())
 }

@@ -2,7 +2,7 @@
 
 use crate::cores::{Place, core_with, stacks};
 use crate::program::program;
-use backtrace_files::FileContents;
+use backtrace_files::GivenFile;
 use backtrace_text::FunctionNames;
 use backtrace_walks::{BacktraceOptions, FrameOptions, write_stacks};
 use core_files::CoreFile;
@@ -84,11 +84,11 @@ fn expect(rt: &impl Abort, alloc: Global, case: &Case) -> Result<(), Fail> {
     let core = CoreFile::parse(alloc, &bytes)?;
     let file = program(alloc)?;
     let mut sink = Streamed::new(Vec::new(alloc));
-    let contents = FileContents {
-        files: &[Some(file.as_slice())],
-        debug: &[],
+    let given = GivenFile {
+        bytes: Some(file.as_slice()),
+        debug: None,
     };
-    write_stacks(alloc, &core, &contents, &OPTIONS, &mut sink)?;
+    write_stacks(alloc, &core, &[given], &OPTIONS, &mut sink)?;
     assert!(rt; sink.into_inner().as_slice() == text.as_bytes(), "{text}");
     Ok(())
 }

@@ -2,7 +2,7 @@
 
 use crate::object::{object, other_object};
 use crate::small_core::{SHARED_OBJECT, core_with};
-use backtrace_files::{FileContents, LoadedFile, memory_ranges, process_files};
+use backtrace_files::{GivenFile, LoadedFile, memory_ranges, process_files};
 use core_files::{CoreFile, MappedFile};
 use std::alloc::Global;
 use std::process::Abort;
@@ -30,20 +30,21 @@ fn expect(
     assert!(rt; are_same(file.bytes, bytes));
 }
 
-// A core with these contents has the two mappings of `/a` with these bytes, one of `/b` without, and the shared object.
+// What is given of a file without a debug file.
+fn given(bytes: Option<&[u8]>) -> GivenFile<'_> {
+    GivenFile { bytes, debug: None }
+}
+
+// A core of which this is given has the two mappings of `/a` with these bytes, one of `/b` without, and the shared object.
 fn expect_files(
     rt: &impl Abort,
     alloc: Global,
     core: &CoreFile<'_>,
-    contents: &[Option<&[u8]>],
+    given: &[GivenFile<'_>],
     first: Option<&[u8]>,
     second: Option<&[u8]>,
 ) -> Result<(), Fail> {
-    let contents = FileContents {
-        files: contents,
-        debug: &[],
-    };
-    let files = process_files(alloc, core, &contents)?;
+    let files = process_files(alloc, core, given)?;
     let [one, two, three, object] = files.as_slice() else {
         assert!(rt; false);
         return Ok(());
@@ -61,10 +62,18 @@ fn expect_files(
 fn files_in_their_order_and_the_shared_object(rt: HostRuntime) -> Result<(), Fail> {
     let file = object(rt.alloc())?;
     let whole = Some(file.as_slice());
+    let (known, unknown) = (given(whole), given(None));
     let bytes = core_with(rt.alloc(), &file)?;
     let core = CoreFile::parse(rt.alloc(), &bytes)?;
-    expect_files(&rt, rt.alloc(), &core, &[whole, whole, None], whole, whole)?;
-    expect_files(&rt, rt.alloc(), &core, &[None, whole], None, whole)?;
+    expect_files(
+        &rt,
+        rt.alloc(),
+        &core,
+        &[known, known, unknown],
+        whole,
+        whole,
+    )?;
+    expect_files(&rt, rt.alloc(), &core, &[unknown, known], None, whole)?;
     expect_files(&rt, rt.alloc(), &core, &[], None, None)
 }
 
@@ -72,21 +81,20 @@ fn files_in_their_order_and_the_shared_object(rt: HostRuntime) -> Result<(), Fai
 fn bytes_with_another_build_id_are_left_out(rt: HostRuntime) -> Result<(), Fail> {
     let file = object(rt.alloc())?;
     let other = other_object(rt.alloc())?;
-    let whole = Some(other.as_slice());
+    let known = given(Some(other.as_slice()));
     let bytes = core_with(rt.alloc(), &file)?;
     let core = CoreFile::parse(rt.alloc(), &bytes)?;
-    expect_files(&rt, rt.alloc(), &core, &[whole, whole], None, None)
+    expect_files(&rt, rt.alloc(), &core, &[known, known], None, None)
 }
 
-// Whether the first file of a core has a debug file, if these are given.
+// Whether the first file of a core has a debug file, if this is given of it.
 fn has_debug_file(
     alloc: Global,
     core: &CoreFile<'_>,
-    files: &[Option<&[u8]>],
-    debug: &[Option<&[u8]>],
+    bytes: Option<&[u8]>,
+    debug: Option<&[u8]>,
 ) -> Result<bool, Fail> {
-    let contents = FileContents { files, debug };
-    let files = process_files(alloc, core, &contents)?;
+    let files = process_files(alloc, core, &[GivenFile { bytes, debug }])?;
     Ok(files.iter().take(1).any(|file| file.debug.is_some()))
 }
 
@@ -97,10 +105,10 @@ fn debug_files_have_the_build_id_of_their_file(rt: HostRuntime) -> Result<(), Fa
     let other = other_object(alloc)?;
     let bytes = core_with(alloc, &file)?;
     let core = CoreFile::parse(alloc, &bytes)?;
-    let whole = [Some(file.as_slice())];
-    assert!(rt; has_debug_file(alloc, &core, &whole, &whole)?);
-    assert!(rt; !has_debug_file(alloc, &core, &whole, &[Some(other.as_slice())])?);
-    assert!(rt; !has_debug_file(alloc, &core, &[None], &whole)?);
+    let whole = Some(file.as_slice());
+    assert!(rt; has_debug_file(alloc, &core, whole, whole)?);
+    assert!(rt; !has_debug_file(alloc, &core, whole, Some(other.as_slice()))?);
+    assert!(rt; !has_debug_file(alloc, &core, None, whole)?);
     Ok(())
 }
 

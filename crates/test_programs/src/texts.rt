@@ -2,7 +2,7 @@
 
 use crate::cores::core_x86_64;
 use crate::program::program;
-use backtrace_files::FileContents;
+use backtrace_files::GivenFile;
 use backtrace_text::FunctionNames;
 use backtrace_walks::{BacktraceOptions, FrameOptions, write_stacks};
 use core_files::CoreFile;
@@ -58,76 +58,52 @@ const WITHOUT_FILE: &str = "Thread 7:
 #2  0x0000000000101400 in ?? from /program+0x1400
 ";
 
-// The text of the core is this one.
+// The text of the core is this one, by these bytes of its file.
 fn expect(
     rt: &impl Abort,
     alloc: Global,
-    contents: &[Option<&[u8]>],
+    bytes: Option<&[u8]>,
     options: &BacktraceOptions,
     expected: &str,
 ) -> Result<(), Fail> {
-    let bytes = core_x86_64(alloc)?;
-    let core = CoreFile::parse(alloc, &bytes)?;
+    let core = core_x86_64(alloc)?;
+    let core = CoreFile::parse(alloc, &core)?;
     let mut sink = Streamed::new(Vec::new(alloc));
-    let contents = FileContents {
-        files: contents,
-        debug: &[],
-    };
-    write_stacks(alloc, &core, &contents, options, &mut sink)?;
+    let given = GivenFile { bytes, debug: None };
+    write_stacks(alloc, &core, &[given], options, &mut sink)?;
     assert!(rt; sink.into_inner().as_slice() == expected.as_bytes());
     Ok(())
 }
 
-#[test]
-fn of_all_threads(rt: HostRuntime) -> Result<(), Fail> {
-    let file = program(rt.alloc())?;
-    expect(&rt, rt.alloc(), &[Some(file.as_slice())], &ALL, WHOLE)
+// One thread alone.
+fn of_thread(id: u64) -> BacktraceOptions {
+    BacktraceOptions {
+        thread: Some(id),
+        ..ALL
+    }
 }
 
 #[test]
-fn of_one_thread_with_registers(rt: HostRuntime) -> Result<(), Fail> {
+fn of_threads_and_frames_that_are_asked_for(rt: HostRuntime) -> Result<(), Fail> {
     let file = program(rt.alloc())?;
-    let options = BacktraceOptions {
-        thread: Some(9),
+    let known = Some(file.as_slice());
+    expect(&rt, rt.alloc(), known, &ALL, WHOLE)?;
+    let registers = BacktraceOptions {
         frames: FrameOptions {
             registers: true,
             names: FunctionNames::Raw,
         },
-        ..ALL
+        ..of_thread(9)
     };
-    expect(
-        &rt,
-        rt.alloc(),
-        &[Some(file.as_slice())],
-        &options,
-        ONE_THREAD,
-    )?;
-    let none = BacktraceOptions {
-        thread: Some(8),
-        ..ALL
-    };
-    expect(&rt, rt.alloc(), &[Some(file.as_slice())], &none, "")
-}
-
-#[test]
-fn up_to_a_limit(rt: HostRuntime) -> Result<(), Fail> {
-    let file = program(rt.alloc())?;
-    let options = BacktraceOptions { limit: 2, ..ALL };
-    expect(
-        &rt,
-        rt.alloc(),
-        &[Some(file.as_slice())],
-        &options,
-        TWO_FRAMES,
-    )
+    expect(&rt, rt.alloc(), known, &registers, ONE_THREAD)?;
+    expect(&rt, rt.alloc(), known, &of_thread(8), "")?;
+    let two = BacktraceOptions { limit: 2, ..ALL };
+    expect(&rt, rt.alloc(), known, &two, TWO_FRAMES)
 }
 
 #[test]
 fn without_the_file(rt: HostRuntime) -> Result<(), Fail> {
-    let options = BacktraceOptions {
-        thread: Some(7),
-        ..ALL
-    };
-    expect(&rt, rt.alloc(), &[], &options, WITHOUT_FILE)?;
-    expect(&rt, rt.alloc(), &[Some(b"text")], &options, WITHOUT_FILE)
+    let options = of_thread(7);
+    expect(&rt, rt.alloc(), None, &options, WITHOUT_FILE)?;
+    expect(&rt, rt.alloc(), Some(b"text"), &options, WITHOUT_FILE)
 }

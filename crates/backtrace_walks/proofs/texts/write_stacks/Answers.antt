@@ -1,9 +1,9 @@
-use Rattle.std.proofs.Common.{List, subst, ap, refl, sym, ◌∙◌}
+use Rattle.std.proofs.Common.{List, map, subst, ap, refl, sym, ◌∙◌}
 use Rattle.std.proofs.lemmas.List.{append-nil}
 use Rattle.std.specs.Io.KnownBytes.{Appends}
 use Rattle.backtrace_files.specs.FileViews.{files_seen}
 use Rattle.backtrace_files.specs.Files.{ProcessFile}
-use Rattle.backtrace_files.specs.GivenViews.{contents_seen}
+use Rattle.backtrace_files.specs.GivenViews.{given_seen}
 use Rattle.backtrace_headings.specs.Headings.{Heading, heading_of, heading_text}
 use Rattle.backtrace_text.specs.Threads.{text_of}
 use Rattle.core_files.specs.CoreViews.{contents_of}
@@ -17,9 +17,9 @@ use Rattle.backtrace_walks.proofs.texts.write_stacks.Goals as goal
 pub returns-in_err-write_heading-clause-text : goal.returns-in_err-write_heading-clause-text
 returns-in_err-write_heading-clause-text g c =
     let core = contents_of c.args.core.now in
-    let contents = contents_seen c.args.contents.now in
-    let all = core_text core contents c.args.options.now in
-    let rest = text_of (core_backtraces core contents c.args.options.now) in
+    let given = map given_seen c.args.given.now in
+    let all = core_text core given c.args.options.now in
+    let rest = text_of (core_backtraces core given c.args.options.now) in
     let old = g.W.Sink.contents c.args.sink.now in
     let new = g.W.Sink.contents c.write_heading.new.sink in
     fails_in c.from_residual-in_err-write_heading.result old old new all (heading_text (heading_of core)) rest all
@@ -29,9 +29,9 @@ returns-in_err-write_heading-clause-text g c =
 pub returns-clause-text : goal.returns-clause-text
 returns-clause-text g c =
     let core = contents_of c.args.core.now in
-    let contents = contents_seen c.args.contents.now in
-    let all = core_text core contents c.args.options.now in
-    let rest = text_of (core_backtraces core contents c.args.options.now) in
+    let given = map given_seen c.args.given.now in
+    let all = core_text core given c.args.options.now in
+    let rest = text_of (core_backtraces core given c.args.options.now) in
     let old = g.W.Sink.contents c.args.sink.now in
     let mid = g.W.Sink.contents c.write_heading.new.sink in
     let new = g.W.Sink.contents c.write_with.new.sink in
