@@ -23,8 +23,8 @@ CODE_AND_MARKERS = re.compile(
 WIDTH = 130
 # Crates that take fewer minutes of the gate are in one row.
 FEW_MINUTES = 4
-# A table with more rows than this has those with smaller numbers in one.
-LONG_TABLE, SMALL = 12, 100
+# A table with more rows than this has in one those with smaller numbers, which are also those below this part of its greatest number.
+LONG_TABLE, SMALL, SMALL_PART = 12, 100, 0.05
 OTHER_CRATES = ("test_", "cases_", "bench_", "example_")
 
 
@@ -208,7 +208,9 @@ def without_small(rows):
     """The rows of a long table, with those of small numbers summed in one."""
     head, *rest = rows
     numbers = {row[0]: [int(cell.replace(",", "")) for cell in row[1:] if cell.replace(",", "").isdigit()] for row in rest}
-    small = [row for row in rest if len(numbers[row[0]]) == len(head) - 1 and max(numbers[row[0]]) < SMALL]
+    counted = [row for row in rest if len(numbers[row[0]]) == len(head) - 1]
+    greatest = max((max(numbers[row[0]]) for row in counted), default=0)
+    small = [row for row in counted if max(numbers[row[0]]) < max(SMALL, SMALL_PART * greatest)]
     if len(rest) <= LONG_TABLE or len(small) < 2:
         return rows
     sums = [f"{sum(column):,}" for column in zip(*(numbers[row[0]] for row in small))]
