@@ -243,11 +243,24 @@ ENDED = {
     "debug-frame-null-call": (NOWHERE, "gcc", DEBUG_FRAME, ["0"]),
 }
 
-# Each program of the system that is stopped at work: its path and arguments.
+# Each program whose symbols are in a file that is named by its build id.
 STRIPPED = {
     "debug-file": (DOWN, "gcc", ["-O1", "-g", "-Wl,--build-id"], ["20"]),
     "debug-file-clang": (DOWN, "clang", ["-O2", "-fomit-frame-pointer", "-Wl,--build-id"], ["20"]),
 }
+
+# Each program whose symbols are in a file to which it has a link, with the folder of that: the program's, `.debug` there, or one below the
+# folder of debug files. Some files are those of another build.
+DEBUG_ROOT = "debug"
+LINKED = {
+    "debug-link": (DOWN, "gcc", ["-O1", "-g", "-Wl,--build-id=none"], ["20"], "."),
+    "debug-link-folder": (DOWN, "clang", ["-O2", "-fomit-frame-pointer", "-Wl,--build-id"], ["20"], ".debug"),
+    "debug-link-root": (DOWN, "gcc", ["-O2", "-Wl,--build-id=none"], ["20"], DEBUG_ROOT),
+    "debug-link-of-another": (DOWN, "gcc", ["-O1", "-Wl,--build-id=none"], ["20"], "."),
+}
+OTHER_BUILDS = {"debug-link-of-another"}
+
+# Each program of the system that is stopped at work: its path and arguments.
 STOPPED = {
     "python3": ("/usr/bin/python3", "-c", "import time\ndef f(n):\n    return f(n - 1) + 1 if n else time.sleep(600)\nf(40)"),
     "python3-sorts": ("/usr/bin/python3", "-c", "import re\nclass A:\n    def __init__(s, n): s.n = n\n    def __lt__(s, o):\n"
@@ -282,7 +295,7 @@ ARM_BUILT = {
 ARM_ROOT = "/usr/aarch64-linux-gnu"
 ARM_MASK = 0x7F << 48
 
-NAMES = [*BUILT, *ENDED, *STRIPPED, *STOPPED, *ARM_BUILT]
+NAMES = [*BUILT, *ENDED, *STRIPPED, *LINKED, *STOPPED, *ARM_BUILT]
 
 # A program with its core; the debugger for it, with its first commands; and whether eu-stack can be asked.
 Made = collections.namedtuple("Made", "program core debugger by_eu_stack")
@@ -338,6 +351,21 @@ def make_stripped(folder, name):
     return run_by_gdb(folder, program, arguments)
 
 
+def make_linked(folder, name):
+    """Builds a program, moves its symbols to a file to which it gets a link, runs it up to its signal, and makes its core."""
+    source, compiler, options, arguments, place = LINKED[name]
+    program, debug_root = build(folder, source, compiler, options), folder / DEBUG_ROOT
+    debug = debug_root / folder.relative_to("/") / "program.debug" if place == DEBUG_ROOT else folder / place / "program.debug"
+    debug.parent.mkdir(parents=True, exist_ok=True)
+    run("objcopy", "--only-keep-debug", program, debug)
+    run("objcopy", "--strip-all", f"--add-gnu-debuglink={debug}", program)
+    if name in OTHER_BUILDS:
+        with debug.open("ab") as file:
+            file.write(b"more")
+    made = run_by_gdb(folder, program, arguments)
+    return made._replace(debugger=[*made.debugger, "-iex", f"set debug-file-directory {debug_root}"])
+
+
 def make_stopped(folder, name):
     """Runs a program for a moment, and makes its core."""
     core = folder / "core"
@@ -388,4 +416,5 @@ def make(folder, name):
     if name in BUILT:
         # eu-stack takes more than three minutes of processor for 100,000 frames.
         return make_by_gdb(folder, *BUILT[name])._replace(by_eu_stack=name != "deeper")
-    return (make_ended if name in ENDED else make_stripped if name in STRIPPED else make_stopped if name in STOPPED else make_arm)(folder, name)
+    makers = {make_ended: ENDED, make_stripped: STRIPPED, make_linked: LINKED, make_stopped: STOPPED, make_arm: ARM_BUILT}
+    return next(make_one for make_one, names in makers.items() if name in names)(folder, name)

@@ -13,7 +13,7 @@ pub(crate) const USAGE: &str =
        backtrace --lint FILE..
 Prints why the process of a core file died, and the stacks of its threads.
   --root DIR        reads the files that the core names below DIR
-  --debug-root DIR  looks for files with symbols below DIR, by their build ids, and not below /usr/lib/debug
+  --debug-root DIR  looks for files with symbols below DIR, by build ids and links, and not below /usr/lib/debug
   --thread ID       prints the stack of this thread alone
   --limit N         prints at most N frames of a stack, 1048576 without it
   --registers       prints the registers of each frame too
@@ -36,7 +36,7 @@ pub(crate) struct CoreRequest<'a> {
     pub(crate) core: &'a str,
     /// The folder that the names of mapped files are below, or no text.
     pub(crate) root: &'a str,
-    /// The folder that files with symbols are below, by their build ids.
+    /// The folder that files with symbols are below, by their build ids or in the folders of links.
     pub(crate) debug_root: &'a str,
     /// Which stacks, and how much of each.
     pub(crate) options: BacktraceOptions,

@@ -3,6 +3,7 @@
 use crate::arguments::CoreRequest;
 use backtrace_files::{GivenFile, build_id_of, is_debug_file_of};
 use core_files::MappedFile;
+use debug_links::{debug_link_of, linked_paths};
 use elf_files::ElfFile;
 use function_index::has_symbol_table;
 use regular_files::{build_id_path, elf_bytes};
@@ -42,26 +43,98 @@ fn read_below(rt: &HostRuntime, root: &str, name: &[u8]) -> io::Result<Vec<u8>> 
     }
 }
 
-// The bytes of the debug file of a file with these bytes, if this has a build id and no symbols, and there is one below a folder.
-fn read_debug(rt: &HostRuntime, folder: &str, bytes: &[u8]) -> Result<Option<Vec<u8>>, AllocError> {
-    let Ok(elf) = ElfFile::parse(bytes) else {
-        return Ok(None);
-    };
-    let Some(build_id) = build_id_of(bytes) else {
-        return Ok(None);
-    };
-    if has_symbol_table(&elf) {
-        return Ok(None);
-    }
-    let folder = format!(in rt.alloc(); "{folder}/.build-id")?;
-    let path = build_id_path(rt.alloc(), folder.as_str(), build_id, ".debug")?;
-    match elf_bytes(rt, path.as_str()) {
-        Ok(found) => Ok(found),
-        Err(_) => Ok(None),
+// Whether a file with these bytes has a table of symbols.
+fn has_symbols(bytes: &[u8]) -> bool {
+    match ElfFile::parse(bytes) {
+        Ok(elf) => has_symbol_table(&elf),
+        Err(_) => false,
     }
 }
 
-// Reads the file that a core names, below a folder, and its debug file, below another.
+// The bytes of the ELF file at a path, if it can be read and has symbols.
+fn read_symbols(rt: &HostRuntime, path: &str) -> Option<Vec<u8>> {
+    match elf_bytes(rt, path) {
+        Ok(Some(found)) if has_symbols(found.as_slice()) => Some(found),
+        _ => None,
+    }
+}
+
+// The bytes of the file that is named by the build id of one with these bytes, below a folder.
+fn read_by_id(rt: &HostRuntime, folder: &str, bytes: &[u8]) -> Result<Option<Vec<u8>>, AllocError> {
+    let Some(build_id) = build_id_of(bytes) else {
+        return Ok(None);
+    };
+    let folder = format!(in rt.alloc(); "{folder}/.build-id")?;
+    let path = build_id_path(rt.alloc(), folder.as_str(), build_id, ".debug")?;
+    Ok(read_symbols(rt, path.as_str()))
+}
+
+// The bytes of the first file at these paths that is the debug file of one with these bytes, or else those of the last, which isn't.
+fn read_first(rt: &HostRuntime, paths: &[Vec<u8>], bytes: &[u8]) -> Option<Vec<u8>> {
+    let mut other = None;
+    for path in paths {
+        let Ok(path) = str::from_utf8(path.as_slice()) else {
+            continue;
+        };
+        let Some(found) = read_symbols(rt, path) else {
+            continue;
+        };
+        if is_debug_file_of(bytes, found.as_slice()) {
+            return Some(found);
+        }
+        other = Some(found);
+    }
+    other
+}
+
+// The bytes of the file that one of this name links to.
+fn read_by_link(
+    rt: &HostRuntime,
+    request: &CoreRequest<'_>,
+    name: &[u8],
+    bytes: &[u8],
+) -> Result<Option<Vec<u8>>, AllocError> {
+    let Some(link) = debug_link_of(bytes) else {
+        return Ok(None);
+    };
+    let paths = linked_paths(
+        rt.alloc(),
+        request.root.as_bytes(),
+        request.debug_root.as_bytes(),
+        name,
+        link.name,
+    )?;
+    Ok(read_first(rt, paths.as_slice(), bytes))
+}
+
+// Whether a file that was found is the debug file of one with these bytes.
+fn is_found(bytes: &[u8], found: &Option<Vec<u8>>) -> bool {
+    match found {
+        Some(debug) => is_debug_file_of(bytes, debug.as_slice()),
+        None => false,
+    }
+}
+
+// The bytes of the debug file of a file that has no symbols, by its build id, or else by its link; or those of one of another build, if
+// only such are there.
+fn read_debug(
+    rt: &HostRuntime,
+    request: &CoreRequest<'_>,
+    name: &[u8],
+    bytes: &[u8],
+) -> Result<Option<Vec<u8>>, AllocError> {
+    if has_symbols(bytes) {
+        return Ok(None);
+    }
+    let by_id = read_by_id(rt, request.debug_root, bytes)?;
+    if is_found(bytes, &by_id) {
+        return Ok(by_id);
+    }
+    let by_link = read_by_link(rt, request, name, bytes)?;
+    Ok(by_link.or(by_id))
+}
+
+// Reads the file that a core names, below a folder, and its debug file.
 fn read_file<'a>(
     rt: &HostRuntime,
     request: &CoreRequest<'_>,
@@ -69,7 +142,7 @@ fn read_file<'a>(
 ) -> Result<NamedFile<'a>, AllocError> {
     let bytes = read_below(rt, request.root, name);
     let debug = match &bytes {
-        Ok(known) => read_debug(rt, request.debug_root, known.as_slice())?,
+        Ok(known) => read_debug(rt, request, name, known.as_slice())?,
         Err(_) => None,
     };
     Ok(NamedFile { name, bytes, debug })
@@ -105,7 +178,7 @@ impl NamedFile<'_> {
         }
     }
 
-    /// Whether its debug file is that of another file.
+    /// Whether its debug file is of another build.
     pub(crate) fn has_other_symbols(&self) -> bool {
         match self.given() {
             GivenFile {

@@ -43,7 +43,7 @@ fn say_if_missing(rt: &HostRuntime, core: &CoreFile<'_>, file: &NamedFile<'_>) -
             if has_other_build_id(core, file.name, bytes.as_slice()) {
                 say_of(rt, file.name, "has another build id than the core")?;
             } else if file.has_other_symbols() {
-                say_of(rt, file.name, "its file with symbols has another build id")?;
+                say_of(rt, file.name, "its file with symbols is of another build")?;
             }
         }
         Err(error) => {

@@ -1,4 +1,4 @@
--- Whether a file is the one that was mapped, by build ids.
+-- Whether a file is the one that was mapped, by build ids, or its debug file, by its link too.
 use Rattle.std.specs.Prelude.{ℕ, ◌==◌, ◌&&◌, Bool, true, false, not, bytes_eq, List, Option, Some, None, option_and_then}
 use Rattle.std.specs.List.{find}
 use Rattle.std.specs.Result.{result_ok}
@@ -6,6 +6,8 @@ use Rattle.list_laws.specs.First.{first_value}
 use Rattle.core_files.specs.CoreFiles.{CoreContents}
 use Rattle.core_files.specs.MappedFiles.{FileMapping}
 use Rattle.core_files.specs.Ranges.{KnownRange, file_in}
+use Rattle.debug_links.specs.Checksums.{checksum_of}
+use Rattle.debug_links.specs.Links.{Link, debug_link_of}
 use Rattle.elf_files.specs.BuildIds.{build_id}
 use Rattle.elf_files.specs.Header.{header_of}
 use Rattle.elf_files.specs.declared.header.Header.{Header}
@@ -52,9 +54,19 @@ agree None other = false
 agree (Some one) None = false
 agree (Some one) (Some other) = bytes_eq one other
 
--- a file has what debuggers read of one with these bytes (GDB, "Debugging Information in Separate Files"): both have the same build id
+-- a link is to a file with these bytes: it has their checksum
+abbrev pub is_link_to : Option Link → List ℕ → Bool
+is_link_to None debug = false
+is_link_to (Some link) debug = link.checksum == checksum_of debug
+
+-- a file of this build id has what debuggers read of one with these bytes: both have the same one, or the file has none, and a link to it
+abbrev pub is_debug_file_by : Option (List ℕ) → List ℕ → List ℕ → Bool
+is_debug_file_by (Some id) bytes debug = agree (Some id) (build_id_of debug)
+is_debug_file_by None bytes debug = is_link_to (debug_link_of bytes) debug
+
+-- a file has what debuggers read of one with these bytes (GDB, "Debugging Information in Separate Files")
 abbrev pub is_debug_file_of : List ℕ → List ℕ → Bool
-is_debug_file_of bytes debug = agree (build_id_of bytes) (build_id_of debug)
+is_debug_file_of bytes debug = is_debug_file_by (build_id_of bytes) bytes debug
 
 -- the core has a build id of the file of this name, and the file with these bytes has another one or none
 abbrev pub has_other_build_id : CoreContents → List ℕ → List ℕ → Bool

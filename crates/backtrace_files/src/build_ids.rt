@@ -1,4 +1,4 @@
-//! Whether a file is the one that was mapped, by build ids.
+//! Whether a file is the one that was mapped, by build ids, or its debug file, by its link too.
 
 ghost use Rattle.std.specs.Prelude.{◌≡◌, List, option_map, true, false};
 ghost use Rattle.std.specs.Option.{option_copied};
@@ -6,9 +6,11 @@ ghost use Rattle.core_files.specs.CoreViews.{contents_of};
 ghost use Rattle.core_files.specs.FileViews.{mapping_of};
 ghost use Rattle.core_files.specs.NoteViews.{mappings_of};
 ghost use Rattle.core_files.specs.RangeViews.{ranges_seen};
-ghost use Rattle.backtrace_files.specs.BuildIds.{agree, build_id_at, build_id_of, begins_file, differ, file_at, first_mapping, id_without_sections, has_other_build_id, is_debug_file_of};
+ghost use Rattle.backtrace_files.specs.BuildIds.{agree, build_id_at, build_id_of, begins_file, differ, file_at, first_mapping, id_without_sections, has_other_build_id, is_debug_file_of, is_link_to};
+ghost use Rattle.debug_links.specs.LinkViews.{link_seen};
 
 use core_files::{CoreFile, MappedFile, MemoryRange};
+use debug_links::{DebugLink, checksum_of, debug_link_of};
 use elf_files::{ElfFile, Header};
 
 /// The bytes of the file that begins at an address, in the first segment in which one can.
@@ -109,11 +111,25 @@ fn agree(one: Option<&[u8]>, other: Option<&[u8]>) -> bool
     }
 }
 
-/// Whether a file has what debuggers read of one with these bytes: both have the same build id.
+// Whether a link is to a file with these bytes.
+fn is_link_to(link: Option<DebugLink<'_>>, debug: &[u8]) -> bool
+    ensures { result ≡ is_link_to (option_map link_seen link.entry) debug.now }
+{
+    match link {
+        Some(link) => link.checksum == checksum_of(debug),
+        None => false,
+    }
+}
+
+/// Whether a file has what debuggers read of one with these bytes: both have the same build id, or this one has none, and its link has the
+/// checksum of the other.
 pub fn is_debug_file_of(bytes: &[u8], debug: &[u8]) -> bool
     ensures { result ≡ is_debug_file_of bytes.now debug.now }
 {
-    agree(build_id_of(bytes), build_id_of(debug))
+    match build_id_of(bytes) {
+        Some(id) => agree(Some(id), build_id_of(debug)),
+        None => is_link_to(debug_link_of(bytes), debug),
+    }
 }
 
 /// Whether a file with these bytes isn't the one of this name that was mapped: the core has a build id of that, and the file has

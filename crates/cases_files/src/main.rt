@@ -1,6 +1,7 @@
 //! Shows what is read in files, which the arguments name, each after its kind:
 //!
 //! - `elf`: an ELF file, with the functions at the addresses of the input. `scripts/elf-files` writes what readelf reads there.
+//! - `link`: a file's link to its debug file, and the checksum of its bytes, as readelf and zlib have them.
 //! - `recording`: a recording of perf. `scripts/perf-recordings` writes what a second reader reads there.
 //! - `names`: mangled names, a line each. `scripts/symbol-names` writes what `c++filt` writes.
 //! - `stacks`, `flame`, `icicle`: stacks with their counts, as the boxes of each line or as a picture of all lines.
@@ -11,6 +12,7 @@ mod elf;
 mod events;
 mod frames;
 mod functions;
+mod links;
 mod mapped;
 mod names;
 mod recording;
@@ -24,6 +26,7 @@ mod text;
 use anyhow::{Result, bail};
 use elf::show_elf;
 use flame_graph::Direction;
+use links::show_link;
 use names::show_names;
 use recording::show_recording;
 use stacks::{show_picture, show_stacks};
@@ -34,12 +37,13 @@ fn show(rt: &HostRuntime, kind: &str, path: &str) -> Result<()> {
     let bytes = fs::read(rt, path)?;
     match kind {
         "elf" => show_elf(rt, &bytes),
+        "link" => show_link(rt, &bytes),
         "recording" => show_recording(rt, &bytes),
         "names" => show_names(rt, &bytes),
         "stacks" => show_stacks(rt, &bytes),
         "flame" => show_picture(rt, &bytes, Direction::Flame),
         "icicle" => show_picture(rt, &bytes, Direction::Icicle),
-        _ => bail!("a kind is elf, recording, names, stacks, flame or icicle"),
+        _ => bail!("a kind is elf, link, recording, names, stacks, flame or icicle"),
     }
 }
 

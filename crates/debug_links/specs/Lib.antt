@@ -1,0 +1,5 @@
+pub mod Checksums
+pub mod LinkViews
+pub mod Links
+pub mod PathViews
+pub mod Paths
