@@ -3,6 +3,7 @@ use Rattle.std.specs.Prelude.{ℕ, ◌+◌, ◌-◌, ◌*◌, ◌^◌, ◌==◌,
 use Rattle.std.specs.List.{list_any}
 use Rattle.backtrace.specs.declared.arguments.Awaited.{Awaited}
 use Rattle.backtrace.specs.declared.arguments.Awaited.TheVariants.{Word, Root, DebugRoot, Thread, Limit}
+use Rattle.backtrace_json.specs.declared.forms.TextForm.TheVariants.{Json, Lines}
 use Rattle.backtrace_text.specs.declared.names.FunctionNames.TheVariants.{Demangled, Raw}
 use Rattle.backtrace_walks.specs.declared.backtraces.BacktraceOptions.{BacktraceOptions}
 use Rattle.backtrace_walks.specs.declared.backtraces.FrameOptions.{FrameOptions}
@@ -73,6 +74,7 @@ parsed_word parsed word =
     else if bytes_eq word (codes "--limit") then Some (record parsed { awaited = Limit })
     else if bytes_eq word (codes "--registers") then Some (with_frames (record parsed.options.frames { registers = true }) parsed)
     else if bytes_eq word (codes "--raw-names") then Some (with_frames (record parsed.options.frames { names = Raw }) parsed)
+    else if bytes_eq word (codes "--json") then Some (record parsed { options = record parsed.options { form = Json } })
     else if bytes_eq word (codes "--help") || bytes_eq word (codes "-h") then Some (record parsed { is_help = true })
     else parsed_path parsed word
 
@@ -103,14 +105,14 @@ abbrev pub parsed_words : Parsed → List (List ℕ) → Option Parsed
 parsed_words parsed [] = Some parsed
 parsed_words parsed (word ∷ words) = option_and_then (λ next. parsed_words next words) (parsed_next parsed word)
 
--- nothing was said yet: all threads, up to 2^20 frames of each, names as they are written in programs, and the folder in which
+-- nothing was said yet: all threads, up to 2^20 frames of each, names as they are written in programs, lines, and the folder in which
 -- distributions have files with symbols
 abbrev pub nothing_said : Parsed
 nothing_said = record {
   core = None;
   root = [];
   debug_root = codes "/usr/lib/debug";
-  options = record { thread = None; limit = 2 ^ 20; frames = record { registers = false; names = Demangled } };
+  options = record { thread = None; limit = 2 ^ 20; frames = record { registers = false; names = Demangled }; form = Lines };
   is_help = false;
   awaited = Word;
 }

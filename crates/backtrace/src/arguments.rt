@@ -4,12 +4,14 @@ ghost use Rattle.std.specs.Prelude.{◌≡◌, ◌<◌, IfSome, map, option_map,
 ghost use Rattle.backtrace.specs.Arguments.{begins_with_dash, digit_of, number_of, lint_request, number_with, option_among, parsed_limit, parsed_next, parsed_path, parsed_thread, parsed_word, request_by, request_of, stacks_request, with_frames};
 ghost use Rattle.backtrace.specs.ArgumentViews.{parsed_seen, request_seen};
 
+use backtrace_json::TextForm;
 use backtrace_text::FunctionNames;
 use backtrace_walks::{BacktraceOptions, FrameOptions};
 
 /// How the program is called.
 pub(crate) const USAGE: &str =
     "usage: backtrace CORE [--root DIR] [--debug-root DIR] [--thread ID] [--limit N] [--registers] [--raw-names]
+                      [--json]
        backtrace --lint FILE..
 Prints why the process of a core file died, and the stacks of its threads.
   --root DIR        reads the files that the core names below DIR
@@ -18,6 +20,7 @@ Prints why the process of a core file died, and the stacks of its threads.
   --limit N         prints at most N frames of a stack, 1048576 without it
   --registers       prints the registers of each frame too
   --raw-names       prints names of functions as symbols have them, not as they are written in programs
+  --json            prints a document of JSON, not lines
 With --lint prints what an unwinder meets in the call frames of ELF files: the error that ends the entries of .eh_frame, or of
 .debug_frame if a file has no .eh_frame, the FDEs that an index leaves out and those that overlap, the rows that no unwind rule
 expresses or that fail, and why an .eh_frame_hdr isn't truthful. The exit status is 1 if it prints something, 2 if a file can't
@@ -191,6 +194,13 @@ fn parsed_word<'a>(parsed: Parsed<'a>, word: &'a str) -> Option<Parsed<'a>>
                 ..parsed.options.frames
             },
         )),
+        "--json" => Some(Parsed {
+            options: BacktraceOptions {
+                form: TextForm::Json,
+                ..parsed.options
+            },
+            ..parsed
+        }),
         "--help" | "-h" => Some(Parsed {
             help: true,
             ..parsed
@@ -290,6 +300,7 @@ fn stacks_request(words: &[String]) -> Option<Request<'_>>
                 registers: false,
                 names: FunctionNames::Demangled,
             },
+            form: TextForm::Lines,
         },
         help: false,
         awaited: Awaited::Word,

@@ -1,4 +1,4 @@
-//! Prints the stacks of the threads of a core file, in lines like gdb's, or what an unwinder meets in the call frames of ELF files.
+//! Prints the stacks of the threads of a core file, in lines like gdb's or as JSON, or what an unwinder meets in the call frames of ELF files.
 //!
 //! The exit status is 0 if the stacks were printed, 2 if the arguments or the core has a fault, or the core hasn't the thread that is
 //! asked for, and 1 if the core can't be read, standard output failed or memory ran out. Of files it is 0 if nothing was found, 2 if

@@ -8,4 +8,5 @@ mod signals;
 mod writing;
 
 pub use heading::{EndSignal, Heading, heading_of, label_of};
-pub use writing::write_heading;
+pub use signals::{push_code, push_fault_words, push_signal_name};
+pub use writing::{command_of, write_heading};

@@ -52,7 +52,7 @@ fn standard_name(signal: u16) -> Option<&'static str>
 }
 
 /// Appends the name of a signal, or its number.
-pub(crate) fn push_signal_name(
+pub fn push_signal_name(
     alloc: Global,
     text: &mut Vec<u8>,
     signal: u16,
@@ -68,8 +68,8 @@ pub(crate) fn push_signal_name(
     }
 }
 
-// Appends a code by its number, which is an int of 32 bits.
-fn push_code(alloc: Global, text: &mut Vec<u8>, code: u32) -> Result<(), AllocError>
+/// Appends a code by its number, which is an int of 32 bits.
+pub fn push_code(alloc: Global, text: &mut Vec<u8>, code: u32) -> Result<(), AllocError>
     ensures { Pushes result text.old text.new (code_text code) }
 {
     if code < 0x8000_0000 {
@@ -81,8 +81,8 @@ fn push_code(alloc: Global, text: &mut Vec<u8>, code: u32) -> Result<(), AllocEr
     }
 }
 
-// Appends the code of a fault in words, or by its number.
-fn push_fault_words(
+/// Appends the code of a fault in words, or by its number.
+pub fn push_fault_words(
     alloc: Global,
     text: &mut Vec<u8>,
     signal: u16,

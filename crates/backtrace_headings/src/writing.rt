@@ -16,8 +16,8 @@ use json_program::{RunError, Sink, write_all};
 use line_parts::push_bytes;
 use std::alloc::{AllocError, Global};
 
-// The command line of a process, or the name of its program if that is empty.
-fn command_of<'a>(process: &ProcessInfo<'a>) -> &'a [u8]
+/// The command line of a process, or the name of its program if that is empty.
+pub fn command_of<'a>(process: &ProcessInfo<'a>) -> &'a [u8]
     ensures { result.now ≡ command_of (process_seen process.now) }
 {
     if process.arguments.is_empty() {

@@ -45,6 +45,14 @@ impl fmt::Display for ErrorText {
     }
 }
 
+/// Appends why a step failed.
+pub fn push_reason(alloc: Global, text: &mut Vec<u8>, error: Error) -> Result<(), AllocError>
+    ensures { Pushes result text.old text.new (error_text error) }
+{
+    let reason = format!(in alloc; "{}", ErrorText(error))?;
+    push_bytes(text, reason.as_bytes())
+}
+
 /// Appends the line that says why a walk stopped before the end of its stack, if it did.
 pub(crate) fn push_end(alloc: Global, text: &mut Vec<u8>, end: WalkEnd) -> Result<(), AllocError>
     ensures { Pushes result text.old text.new (end_text end) }

@@ -9,7 +9,7 @@ mod names;
 mod threads;
 mod writing;
 
-pub use ends::WalkEnd;
+pub use ends::{WalkEnd, push_reason};
 pub use frames::{CodeLocation, NamedOffset, RegisterValue, ShownFrame};
 pub use names::{FunctionNames, push_name};
 pub use threads::ThreadLabel;

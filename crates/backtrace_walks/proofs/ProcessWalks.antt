@@ -1,6 +1,6 @@
--- The lines of a walk over a stack of a process that are left, move by move.
+-- The text of a walk over a stack of a process that is left, move by move.
 use Rattle.std.proofs.Common.{◌≡◌, ℕ, zero, suc, ◌+◌, ◌-◌, ◌<◌, ◌≤◌, List, [], ◌++◌, refl, sym, ap, ◌∙◌, arith}
-use Rattle.backtrace_text.specs.Ends.{end_text}
+use Rattle.backtrace_json.specs.Forms.{end_part}
 use Rattle.backtrace_text.specs.declared.ends.WalkEnd.{WalkEnd}
 use Rattle.backtrace_text.specs.declared.ends.WalkEnd.TheVariants.{LimitReached}
 use Rattle.backtrace_walks.specs.Backtraces.{course_move, shown_frame}
@@ -20,11 +20,11 @@ use Rattle.backtrace_walks.specs.declared.walks.WalkedFrame.{WalkedFrame}
 use Rattle.backtrace_walks.proofs.WalkLaws.{begins, ends, goes_on, lines_left, reaches_limit}
 
 module _ {Rule R : Type 0} (stacks : StackMeanings Rule R) (process : CoreProcess) (options : BacktraceOptions) where
-  -- the lines from a frame of this number on
+  -- the text from a frame of this number on
   abbrev pub text_left : ℕ → Course R → List ℕ
   text_left number course =
       let seen = process_seen process in
-      lines_left (course_move stacks seen) (shown_frame stacks seen options.frames) number (options.limit - number) course
+      lines_left options.form (course_move stacks seen) (shown_frame stacks seen options.frames) number (options.limit - number) course
 
   -- a course that begins here is where a move left it, and the move gave this
   abbrev pub IsMoved : NextFrame R → ThreadWalk R → ThreadWalk R → Type 0
@@ -35,29 +35,29 @@ module _ {Rule R : Type 0} (stacks : StackMeanings Rule R) (process : CoreProces
       → text_left 0 (course_of course) ≡ walk_text stacks (process_seen process) options start
   begins_at course start begun =
       let seen = process_seen process in
-      begins (course_move stacks seen) (shown_frame stacks seen options.frames) (options.limit - 0) options.limit (course_of course) (course_from start) (omega arith) begun
+      begins options.form (course_move stacks seen) (shown_frame stacks seen options.frames) (options.limit - 0) options.limit (course_of course) (course_from start) (omega arith) begun
 
   -- a move that gives a frame
   pub frame_next : (number : ℕ) (old new : ThreadWalk R) (next : NextFrame R) (frame : WalkedFrame R) → number < options.limit → next ≡ Frame frame → IsMoved next old new
-      → text_left number (course_of old) ≡ walked_text stacks process options.frames number frame ++ text_left (number + 1) (course_of new)
+      → text_left number (course_of old) ≡ walked_text stacks process options number frame ++ text_left (number + 1) (course_of new)
   frame_next number old new next frame within is moved =
       let seen = process_seen process in
       let one_more : options.limit - number ≡ suc (options.limit - (number + 1)) = omega arith in
-      goes_on (course_move stacks seen) (shown_frame stacks seen options.frames) number _ _ (course_of old) (course_of new) (frame_seen frame)
+      goes_on options.form (course_move stacks seen) (shown_frame stacks seen options.frames) number _ _ (course_of old) (course_of new) (frame_seen frame)
       (shown_frame stacks seen options.frames (frame_seen frame)) one_more (ap (λ (n : NextFrame R). record { next = next_seen n; course = course_of new }) (sym is) ∙ moved) refl
 
   -- a move that gives the end
   pub end_next : (number : ℕ) (old new : ThreadWalk R) (next : NextFrame R) (end : WalkEnd) → number < options.limit → next ≡ End end → IsMoved next old new
-      → text_left number (course_of old) ≡ end_text end ++ []
+      → text_left number (course_of old) ≡ end_part options.form end ++ []
   end_next number old new next end within is moved =
       let seen = process_seen process in
       let one_more : options.limit - number ≡ suc (options.limit - (number + 1)) = omega arith in
-      ends (course_move stacks seen) (shown_frame stacks seen options.frames) number _ _ (course_of old) (course_of new) end one_more
+      ends options.form (course_move stacks seen) (shown_frame stacks seen options.frames) number _ _ (course_of old) (course_of new) end one_more
       (ap (λ (n : NextFrame R). record { next = next_seen n; course = course_of new }) (sym is) ∙ moved)
 
   -- no move is left
-  pub limit_next : (number : ℕ) (course : ThreadWalk R) → options.limit ≤ number → text_left number (course_of course) ≡ end_text LimitReached ++ []
+  pub limit_next : (number : ℕ) (course : ThreadWalk R) → options.limit ≤ number → text_left number (course_of course) ≡ end_part options.form LimitReached ++ []
   limit_next number course over =
       let seen = process_seen process in
       let none : options.limit - number ≡ zero = omega arith in
-      reaches_limit (course_move stacks seen) (shown_frame stacks seen options.frames) number (options.limit - number) (course_of course) none
+      reaches_limit options.form (course_move stacks seen) (shown_frame stacks seen options.frames) number (options.limit - number) (course_of course) none

@@ -1,13 +1,14 @@
 -- The backtraces of a core's threads.
-use Rattle.std.specs.Prelude.{ℕ, ◌-◌, ◌==◌, ◌&&◌, ◌||◌, Bool, true, nat_lt, not, if◌then◌else◌, List, [], ◌++◌, map, Option, Some, None, option_and_then, unwrap_or}
+use Rattle.std.specs.Prelude.{ℕ, ◌-◌, ◌==◌, ◌&&◌, ◌||◌, Bool, true, nat_lt, not, if◌then◌else◌, List, [], map, Option, Some, None, option_and_then, unwrap_or}
 use Rattle.std.specs.List.{filter_map}
 use Rattle.std.specs.Option.{option_map}
 use Rattle.backtrace_files.specs.Files.{ProcessFile, ranges_of}
 use Rattle.backtrace_files.specs.Locations.{location_of, may_be_code_at}
 use Rattle.backtrace_files.specs.ProcessFiles.{Given, process_files}
-use Rattle.backtrace_headings.specs.Headings.{Heading, heading_of, heading_text, label_of}
+use Rattle.backtrace_headings.specs.Headings.{Heading, heading_of, label_of}
+use Rattle.backtrace_json.specs.Forms.{text_in}
 use Rattle.backtrace_text.specs.Frames as seen
-use Rattle.backtrace_text.specs.Threads.{Backtrace, text_of}
+use Rattle.backtrace_text.specs.Threads.{Backtrace}
 use Rattle.core_files.specs.CoreFiles.{CoreContents}
 use Rattle.core_files.specs.Memory.{executable_at, word_at}
 use Rattle.core_files.specs.Ranges.{KnownRange}
@@ -171,6 +172,6 @@ backtraces_with core files options = backtraces_on core.machine core files optio
 abbrev pub core_backtraces : CoreContents → List Given → BacktraceOptions → List Backtrace
 core_backtraces core given options = backtraces_with core (process_files core given) options
 
--- what a core says of its process, and the text of its backtraces
+-- what a core says of its process, and its backtraces, in the form that is asked for
 abbrev pub core_text : CoreContents → List Given → BacktraceOptions → List ℕ
-core_text core given options = heading_text (heading_of core) ++ text_of (core_backtraces core given options)
+core_text core given options = text_in options.form (heading_of core) (core_backtraces core given options)

@@ -2,7 +2,7 @@
 use Rattle.std.specs.Prelude.{ℕ, List}
 use Rattle.backtrace_files.specs.FileViews.{files_seen}
 use Rattle.backtrace_headings.specs.HeadingViews.{heading_view}
-use Rattle.backtrace_text.specs.Frames.{frame_text}
+use Rattle.backtrace_json.specs.Forms.{frame_part}
 use Rattle.core_files.specs.MemoryViews.{segments_of, word_of}
 use Rattle.framehop_loads.specs.UnwindData.{UnwindData}
 use Rattle.framehop_unwinder.specs.State.{SessionState}
@@ -12,7 +12,7 @@ use Rattle.backtrace_walks.specs.SessionViews.{HasModules}
 use Rattle.backtrace_walks.specs.StackMeanings.{StackMeanings}
 use Rattle.backtrace_walks.specs.WalkedViews.{frame_seen}
 use Rattle.backtrace_walks.specs.declared.backtraces.CoreProcess.{CoreProcess}
-use Rattle.backtrace_walks.specs.declared.backtraces.FrameOptions.{FrameOptions}
+use Rattle.backtrace_walks.specs.declared.backtraces.BacktraceOptions.{BacktraceOptions}
 use Rattle.backtrace_walks.specs.declared.walks.WalkedFrame.{WalkedFrame}
 
 -- A process.
@@ -29,7 +29,8 @@ process_seen process = record {
 abbrev pub IsSessionOf : {Rule : Type 0} → CoreProcess → SessionState UnwindData Rule → Type 0
 IsSessionOf process session = HasModules (modules_of (files_seen process.files.now)) session
 
--- The lines of a frame of a process's stack of this number.
-abbrev pub walked_text : {Rule Registers : Type 0} → StackMeanings Rule Registers → CoreProcess → FrameOptions → ℕ → WalkedFrame Registers
+-- The text of a frame of a process's stack of this number.
+abbrev pub walked_text : {Rule Registers : Type 0} → StackMeanings Rule Registers → CoreProcess → BacktraceOptions → ℕ → WalkedFrame Registers
     → List ℕ
-walked_text stacks process options number frame = frame_text number (shown_frame stacks (process_seen process) options (frame_seen frame))
+walked_text stacks process options number frame =
+    frame_part options.form number (shown_frame stacks (process_seen process) options.frames (frame_seen frame))

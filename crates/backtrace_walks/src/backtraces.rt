@@ -11,6 +11,7 @@ use crate::arch::ThreadArch;
 use crate::walks::WalkedFrame;
 use backtrace_files::{LoadedFile, location_of};
 use backtrace_headings::Heading;
+use backtrace_json::TextForm;
 use backtrace_text::{CodeLocation, FunctionNames, RegisterValue, ShownFrame};
 use core_files::Memory;
 use std::alloc::{AllocError, Global};
@@ -33,6 +34,8 @@ pub struct BacktraceOptions {
     pub limit: u64,
     /// What is shown of each frame.
     pub frames: FrameOptions,
+    /// The form of the text.
+    pub form: TextForm,
 }
 
 /// What a process has: its files, its memory, and what its core says of it.

@@ -17,7 +17,8 @@ use crate::backtraces::{BacktraceOptions, CoreProcess};
 use crate::session::session_of;
 use crate::stacks::write_threads;
 use backtrace_files::{GivenFile, LoadedFile, memory_ranges, process_files};
-use backtrace_headings::{heading_of, write_heading};
+use backtrace_headings::heading_of;
+use backtrace_json::{write_close, write_heading_part};
 use core_files::{CoreFile, MemoryRange};
 use elf_files::Machine;
 use framehop_rules::aarch64::ArchAarch64;
@@ -80,9 +81,9 @@ fn write_with<'a, W: Sink>(
     }
 }
 
-/// Writes what a core says of its process, and then the text of its stacks, in the order of the core, of those that are asked for, by what
-/// is given of its files by the numbers of their mappings. Each frame is written before the next step is made, so that no more than one is
-/// kept. A call that fails has written a prefix of the text.
+/// Writes what a core says of its process, and then its stacks, in the order of the core, of those that are asked for, in the form that
+/// is asked for, by what is given of its files by the numbers of their mappings. Each frame is written before the next step is made, so
+/// that no more than one is kept. A call that fails has written a prefix of the text.
 pub fn write_stacks<W: Sink>(
     alloc: Global,
     core: &CoreFile<'_>,
@@ -97,6 +98,7 @@ pub fn write_stacks<W: Sink>(
 {
     let loaded = process_files(alloc, core, given)?;
     let heading = heading_of(core);
-    write_heading(alloc, &heading, sink)?;
-    write_with(alloc, core, loaded.as_slice(), options, sink)
+    write_heading_part(alloc, options.form, &heading, sink)?;
+    write_with(alloc, core, loaded.as_slice(), options, sink)?;
+    write_close(options.form, sink)
 }

@@ -1,6 +1,7 @@
 //! Signed return addresses on aarch64.
 
 use crate::cores::core_aarch64;
+use backtrace_json::TextForm;
 use backtrace_text::FunctionNames;
 use backtrace_walks::{BacktraceOptions, FrameOptions, write_stacks};
 use core_files::CoreFile;
@@ -34,6 +35,7 @@ fn expect(rt: &impl Abort, alloc: Global, masks: u32, expected: &str) -> Result<
             registers: true,
             names: FunctionNames::Demangled,
         },
+        form: TextForm::Lines,
     };
     let mut sink = Streamed::new(Vec::new(alloc));
     write_stacks(alloc, &core, &[], &options, &mut sink)?;

@@ -3,6 +3,7 @@
 use crate::cores::{Place, core_with, stacks};
 use crate::program::program;
 use backtrace_files::GivenFile;
+use backtrace_json::TextForm;
 use backtrace_text::FunctionNames;
 use backtrace_walks::{BacktraceOptions, FrameOptions, write_stacks};
 use core_files::CoreFile;
@@ -73,6 +74,7 @@ const OPTIONS: BacktraceOptions = BacktraceOptions {
         registers: false,
         names: FunctionNames::Raw,
     },
+    form: TextForm::Lines,
 };
 
 fn expect(rt: &impl Abort, alloc: Global, case: &Case) -> Result<(), Fail> {

@@ -3,6 +3,7 @@
 use crate::cores::core_x86_64;
 use crate::program::program;
 use backtrace_files::GivenFile;
+use backtrace_json::TextForm;
 use backtrace_text::FunctionNames;
 use backtrace_walks::{BacktraceOptions, FrameOptions, write_stacks};
 use core_files::CoreFile;
@@ -19,6 +20,7 @@ const ALL: BacktraceOptions = BacktraceOptions {
         registers: false,
         names: FunctionNames::Demangled,
     },
+    form: TextForm::Lines,
 };
 
 const WHOLE: &str = "Thread 7:
@@ -50,6 +52,17 @@ Thread 9:
 #1  <signal handler called>
 Backtrace stopped: limit reached
 ";
+
+// The same as a document.
+const DOCUMENT: &str = "{\"command\":null,\"signal\":null,\"threads\":[\
+    {\"id\":7,\"name\":null,\"got_signal\":false,\"frames\":[\
+    {\"address\":\"0x101000\",\"function\":\"leaf\",\"offset\":0,\"file\":\"/program\",\"file_offset\":4096,\"registers\":null},\
+    {\"address\":\"0x101200\",\"function\":null,\"offset\":null,\"file\":\"/program\",\"file_offset\":4608,\"registers\":null}\
+    ],\"stopped\":\"limit reached\"},\
+    {\"id\":9,\"name\":null,\"got_signal\":false,\"frames\":[\
+    {\"address\":\"0x101500\",\"function\":null,\"offset\":null,\"file\":\"/program\",\"file_offset\":5376,\"registers\":null},\
+    {\"address\":null,\"function\":null,\"offset\":null,\"file\":null,\"file_offset\":null,\"registers\":null}\
+    ],\"stopped\":\"limit reached\"}]}\n";
 
 // Without its call frames the first thread's stack is walked by frame pointers alone.
 const WITHOUT_FILE: &str = "Thread 7:
@@ -98,7 +111,12 @@ fn of_threads_and_frames_that_are_asked_for(rt: HostRuntime) -> Result<(), Fail>
     expect(&rt, rt.alloc(), known, &registers, ONE_THREAD)?;
     expect(&rt, rt.alloc(), known, &of_thread(8), "")?;
     let two = BacktraceOptions { limit: 2, ..ALL };
-    expect(&rt, rt.alloc(), known, &two, TWO_FRAMES)
+    expect(&rt, rt.alloc(), known, &two, TWO_FRAMES)?;
+    let document = BacktraceOptions {
+        form: TextForm::Json,
+        ..two
+    };
+    expect(&rt, rt.alloc(), known, &document, DOCUMENT)
 }
 
 #[test]

@@ -1,5 +1,5 @@
 use Rattle.std.proofs.Common.{ℕ, ◌+◌, List, sym, subst}
-use Rattle.backtrace_text.specs.Ends.{end_text}
+use Rattle.backtrace_json.specs.Forms.{end_part}
 use Rattle.backtrace_text.specs.declared.ends.WalkEnd.TheVariants.{LimitReached}
 use Rattle.backtrace_walks.specs.CourseViews.{course_of}
 use Rattle.json_program.proofs.Laws.{not_failed, written_none}
@@ -33,7 +33,7 @@ returns-in_err-write_walked-in-Frame-clause-text g c =
     let frame = c.in-Frame.frame in
     let moved = c.next_in in
     fails_in c.from_residual.result (g.W.Sink.contents c.args.sink.now) (g.W.Sink.contents l.sink) (g.W.Sink.contents c.write_walked.new.sink)
-    (text_left stacks process options l.number (course_of l.course)) (walked_text stacks process options.frames l.number frame)
+    (text_left stacks process options l.number (course_of l.course)) (walked_text stacks process options l.number frame)
     (text_left stacks process options (l.number + 1) (course_of moved.new.course)) (walk_text stacks (process_seen process) options c.args.start.now) c.from_residual.ensures.0 l.invariant.stands
     (frame_next stacks process options l.number l.course moved.new.course moved.result frame c.loop-number-test.true c.in-Frame.is moved.ensures.next)
     c.in_err-write_walked-in-Frame.ensures.text.prefix
@@ -45,9 +45,9 @@ returns-in-End-clause-text g c =
     let options = c.args.options.now in
     let l = c.loop-number in
     let moved = c.next_in in
-    writes_last c.write_end.result (g.W.Sink.contents c.args.sink.now) (g.W.Sink.contents l.sink) (g.W.Sink.contents c.write_end.new.sink)
-    (text_left stacks process options l.number (course_of l.course)) (end_text c.in-End.end) (walk_text stacks (process_seen process) options c.args.start.now) l.invariant.stands
-    (end_next stacks process options l.number l.course moved.new.course moved.result c.in-End.end c.loop-number-test.true c.in-End.is moved.ensures.next) c.write_end.ensures.text
+    writes_last c.write_end_part.result (g.W.Sink.contents c.args.sink.now) (g.W.Sink.contents l.sink) (g.W.Sink.contents c.write_end_part.new.sink)
+    (text_left stacks process options l.number (course_of l.course)) (end_part options.form c.in-End.end) (walk_text stacks (process_seen process) options c.args.start.now) l.invariant.stands
+    (end_next stacks process options l.number l.course moved.new.course moved.result c.in-End.end c.loop-number-test.true c.in-End.is moved.ensures.next) c.write_end_part.ensures.text
 
 pub loop-number-preserved : goal.loop-number-preserved
 loop-number-preserved g c =
@@ -61,7 +61,7 @@ loop-number-preserved g c =
       failed = not_failed (g.W.Sink.has_failed c.write_walked.new.sink) c.in_ok-write_walked-in-Frame.ensures.errors.write;
       session = moved.ensures.session;
       stands = writes_more (g.W.Sink.contents c.args.sink.now) (g.W.Sink.contents l.sink) (g.W.Sink.contents c.write_walked.new.sink)
-          (text_left stacks process options l.number (course_of l.course)) (walked_text stacks process options.frames l.number frame)
+          (text_left stacks process options l.number (course_of l.course)) (walked_text stacks process options l.number frame)
           (text_left stacks process options (l.number + 1) (course_of moved.new.course)) (walk_text stacks (process_seen process) options c.args.start.now) l.invariant.stands
           (frame_next stacks process options l.number l.course moved.new.course moved.result frame c.loop-number-test.true c.in-Frame.is moved.ensures.next)
           c.in_ok-write_walked-in-Frame.ensures.text.whole;
@@ -73,6 +73,6 @@ returns-clause-text g c =
     let process = c.args.process.now in
     let options = c.args.options.now in
     let l = c.loop-number in
-    writes_last c.write_end-2.result (g.W.Sink.contents c.args.sink.now) (g.W.Sink.contents l.sink) (g.W.Sink.contents c.write_end-2.new.sink)
-    (text_left stacks process options l.number (course_of l.course)) (end_text LimitReached) (walk_text stacks (process_seen process) options c.args.start.now) l.invariant.stands
-    (limit_next stacks process options l.number l.course c.loop-number-test.false) c.write_end-2.ensures.text
+    writes_last c.write_end_part-2.result (g.W.Sink.contents c.args.sink.now) (g.W.Sink.contents l.sink) (g.W.Sink.contents c.write_end_part-2.new.sink)
+    (text_left stacks process options l.number (course_of l.course)) (end_part options.form LimitReached) (walk_text stacks (process_seen process) options c.args.start.now) l.invariant.stands
+    (limit_next stacks process options l.number l.course c.loop-number-test.false) c.write_end_part-2.ensures.text

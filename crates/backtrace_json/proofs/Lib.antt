@@ -1,0 +1,5 @@
+pub mod Adding
+pub mod FrameTokens
+pub mod Laws
+pub mod Printed
+pub mod Registers
