@@ -52,11 +52,7 @@ fn standard_name(signal: u16) -> Option<&'static str>
 }
 
 /// Appends the name of a signal, or its number.
-pub fn push_signal_name(
-    alloc: Global,
-    text: &mut Vec<u8>,
-    signal: u16,
-) -> Result<(), AllocError>
+pub fn push_signal_name(alloc: Global, text: &mut Vec<u8>, signal: u16) -> Result<(), AllocError>
     ensures { Pushes result text.old text.new (signal_name signal) }
 {
     match standard_name(signal) {
