@@ -5,7 +5,8 @@ as claimed, each with its cause; `proved`, whether the programs that ran were th
 record rests on had been changed since; `date`; `minutes` that a run takes; `machine`; `inputs`, the crates that it rests on, or `*`; `hash`, of
 the sources and definitions of these crates and of all below them, and of the script; `stale_because`, why it wasn't run again over
 other files; the tables `counts`, numbers by their names, of which `shown` are those that documents have if not all, and `tools`,
-versions. Figures by crate are in `[crates]`, and tables of a bench or of causes in `[[tables]]`.
+versions. Figures by crate are in `[crates]`, those by which a machine is held against another in `[reference]`, and tables of a bench or of
+causes in `[[tables]]`.
 
 A record is stale if its hash isn't that of the files; one with a hash for each crate if one of these isn't, or if a crate lacks its row: the
 gate's has one for each crate, that of wrong edits for each that has some. A command that ends with `[NAME..]` is that of runs with any names.
@@ -33,7 +34,7 @@ from lib.tools import TOP, crates, give_up
 FOLDER = TOP / "evidence"
 BEGUN = time.monotonic()
 # Options that change nothing of what is compared.
-PASSED_OVER = ("--record", "--program", "--lister", "--jobs", "--workers", "--save", "--keep", "--wine", "--show", "--original", "--peer")
+PASSED_OVER = ("--record", "--program", "--lister", "--jobs", "--workers", "--save", "--keep", "--wine", "--show", "--original", "--peer", "--of")
 OPTIONS_ALONE = ("--markdown", "--no-build", "--unlimited")
 
 
@@ -58,6 +59,7 @@ class Record:
     counts: dict = dataclasses.field(default_factory=dict)
     tools: dict = dataclasses.field(default_factory=dict)
     crates: dict = dataclasses.field(default_factory=dict)
+    reference: dict = dataclasses.field(default_factory=dict)
     tables: list = dataclasses.field(default_factory=list)
 
     @property
@@ -177,11 +179,11 @@ def sources_of(name):
     return sorted(path for part in ("src", "specs") for path in (folder / part).rglob("*") if path.suffix in (".rt", ".antt"))
 
 
-def digest_of(paths):
+def digest_of(paths, top=TOP):
     digest = hashlib.sha256()
     for path in paths:
         data = path.read_bytes()
-        digest.update(f"{path.relative_to(TOP)} {len(data)}\n".encode() + data)
+        digest.update(f"{path.relative_to(top)} {len(data)}\n".encode() + data)
     return digest.hexdigest()
 
 
@@ -204,6 +206,13 @@ def gate_hash(name):
     folder = TOP / "crates" / name
     files = [path for path in folder.rglob("*") if path.is_file() and path.relative_to(folder).parts[0] not in ("out", "wrong", "README.md")]
     return digest_of(sorted(files))[:16] if name in below() else None
+
+
+def proof_hash(name, top=TOP):
+    """The hash of the files of a crate that its proof reads."""
+    folder = top / "crates" / name
+    files = sorted(path for part in ("src", "specs", "proofs") for path in (folder / part).rglob("*") if path.is_file())
+    return digest_of(files, top)[:16]
 
 
 def hash_of(names, script=None):
@@ -263,6 +272,10 @@ def is_proved(given, inputs):
     return not chosen and builtins.all(path.is_file() for path in built) and not any(map(newer_source, inputs))
 
 
+def today():
+    return str(datetime.date.today())
+
+
 # ---- writing
 
 def command_line():
@@ -296,7 +309,7 @@ def write(name, counts, proved, **more):
     record = named(name)
     paths = [TOP / "crates" / crate / part for crate in with_below(record.inputs) for part in ("src", "specs")]
     script = [record.script] if record.script else []
-    found = {"commit": commit([*paths, *script]), "date": str(datetime.date.today()), "hash": hash_of(record.inputs, record.script),
+    found = {"commit": commit([*paths, *script]), "date": today(), "hash": hash_of(record.inputs, record.script),
              "machine": machine(), "minutes": round((time.monotonic() - BEGUN) / 60, 1), "tools": versions(), "stale_because": "", "tables": [], "crates": {}}
     reason = record.stale_because
     record = dataclasses.replace(record, counts=counts, proved=proved, **(found | more))

@@ -21,6 +21,8 @@ FIGURE = re.compile(r"(?<![\w.,])\d{1,3}(?:,\d{3})+(?![\w,])")
 CODE_AND_MARKERS = re.compile(
     r"^```.*?^```|<!-- ([\w -]+): begin -->.*?<!-- \1: end -->|<!-- count: .+? -->.*?<!-- end -->|`[^`\n]+`|^(?: {4}|\t)[^\n]*", re.M | re.S)
 WIDTH = 130
+# The processor minutes that the gate may take for what stood when this was set, and for each thousand lines since.
+BUDGET, BUDGET_OF_A_THOUSAND = 180, 2.5
 # Crates that take fewer minutes of the gate are in one row.
 FEW_MINUTES = 4
 # A table with more rows than this has in one those with smaller numbers, which are also those below this part of its greatest number.
@@ -233,17 +235,26 @@ def thousand(minutes, lines):
     return "–" if not lines else f"{minutes * 1000 / lines:.1f}"
 
 
+def budget(record):
+    """The minutes that the gate may take: those of what stood when they were set, and those of each line that is new."""
+    return BUDGET + BUDGET_OF_A_THOUSAND * (record.counts["lines"] - record.counts["lines of the budget"]) / 1000
+
+
 def gate_sums():
-    """What the gate took in all."""
+    """What the gate took in all, and what it may."""
     record = records.named("gate")
     names = {"proof": "proofs", "tests": "proofs of tests", "edits": "wrong edits, with the proofs that they begin with", "all": "all"}
     rows = [["Sum", "Processor minutes", "A thousand lines"]]
     lines = record.counts["lines"]
     rows += [[text, number_text(record.counts[name]), thousand(record.counts[name], lines)] for name, text in names.items()]
+    rows.append(["the budget", f"{budget(record):.0f}", thousand(budget(record), lines)])
     clock, processors = number_text(record.counts["minutes by the clock"]), record.counts["processors"]
     commits = len({row.get("commit", record.commit) for row in record.crates.values()})
-    text = f"{lines:,} lines. The last run of all crates took {clock} minutes by the clock on {processors} processors."
+    text = f"{lines:,} lines, of which {record.counts['lines of the budget']:,} stood when the budget was set."
+    text += f" The last run of all crates took {clock} minutes by the clock on {processors} processors."
     text += f" Rows were measured at {commits} commits." if commits > 1 else ""
+    if "pace" in record.counts:
+        text += f" A minute is one of the machine of the budget: that of the last run took {record.counts['pace']} times as long over the same crates."
     return "\n" + figures.markdown_table(rows) + "\n\n" + wrapped(text) + run_of(record)
 
 
