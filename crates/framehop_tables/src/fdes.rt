@@ -8,17 +8,18 @@ ghost use Rattle.dwarf_frame_entries.specs.EntryPrograms.{fde_rows};
 ghost use Rattle.dwarf_frame_entries.specs.SectionWithin.{fde_there};
 ghost use Rattle.framehop_index.specs.CfiIndexView.{IsIndexOf};
 ghost use Rattle.framehop_ranges.specs.Ranges.{Sound};
-ghost use Rattle.framehop_tables.specs.ByParts.{FitsFde, HasCieThere, HasRoomFor, Holds};
+ghost use Rattle.dwarf_cie_rows.specs.OwnRows.{HasCieThere, HasRoomFor};
+ghost use Rattle.framehop_tables.specs.ByParts.{FitsFde, Holds};
 ghost use Rattle.framehop_tables.specs.Covered.{row_rules, tabulated};
 ghost use Rattle.framehop_tables.specs.Tabulations.{AddsEntry, AddsProgram, AddsRest, AddsRows, AreOf, CanAdd, end_of, start_at};
 
-use crate::by_parts::{KnownRows, OwnRow, own_row};
 use crate::covered::Covered;
 use crate::entry::{Entry, extend, nothing_up_to};
 use crate::parts_rows::{add_rows_by_parts, columns_of, has_room};
 use crate::rows::add_rows;
 use crate::same_rule::SameRule;
 use crate::spans::Span;
+use dwarf_cie_rows::{KnownRows, OwnRow, own_row};
 use dwarf_frame_entries::{
     BaseAddresses, FrameDescriptionEntry, KnownCies, UnwindContext, UnwindContextStorage,
     UnwindSection,

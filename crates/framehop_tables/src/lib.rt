@@ -1,7 +1,6 @@
 //! Tables of the unwind rules that the rows of a section of call frames are, by relative address: a look-up parses nothing.
 #![tactic(auto)]
 
-mod by_parts;
 mod covered;
 mod entry;
 mod fdes;

@@ -8,7 +8,7 @@ ghost use Rattle.dwarf_frame_parts.specs.PartsStates.{AreApart, HasRoomForParts}
 ghost use Rattle.dwarf_frame_parts.specs.RowParts.{parts_of};
 ghost use Rattle.dwarf_frame_parts.specs.SimpleRows.{parts_shown};
 ghost use Rattle.framehop_ranges.specs.Ranges.{Sound};
-ghost use Rattle.framehop_tables.specs.ByParts.{AreLeftIn};
+ghost use Rattle.dwarf_cie_rows.specs.OwnRows.{AreLeftIn};
 ghost use Rattle.framehop_tables.specs.Covered.{SaysValid, by_rule, row_rules};
 ghost use Rattle.framehop_tables.specs.Tabulations.{AddsProgram};
 

@@ -10,7 +10,7 @@ use symbol_text::{Kind, Modifier};
 
 /// The rules of the grammar. Where names of functions and others differ, the former end with `Tagged`: their template
 /// arguments are what `T_` stands for.
-#[derive(Debug, Clone, Copy, PartialEq, Eq)]
+#[derive(Clone, Copy)]
 pub enum Rule {
     Mangled,
     Suffixes,

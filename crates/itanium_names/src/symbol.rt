@@ -4,7 +4,7 @@ use crate::grammar::Rule;
 use symbol_text::{Kind, Modifier, Span};
 
 /// What the next byte has to be.
-#[derive(Debug, Clone, Copy, PartialEq, Eq)]
+#[derive(Clone, Copy)]
 pub enum Look {
     /// Any byte, or the end.
     Any,
@@ -21,7 +21,7 @@ pub enum Look {
 }
 
 /// What productions write.
-#[derive(Debug, Clone, Copy, PartialEq, Eq)]
+#[derive(Clone, Copy)]
 pub enum Phrase {
     Std,
     Scope,
@@ -71,7 +71,7 @@ pub enum Phrase {
 }
 
 /// A step of a production. Operands are counted from the piece that was made last, which is 0.
-#[derive(Debug, Clone, Copy, PartialEq, Eq)]
+#[derive(Clone, Copy)]
 pub enum Symbol {
     /// Begins a production, which is taken if the next two bytes are such and none before it was taken.
     When(Look, Look),
@@ -160,7 +160,7 @@ pub enum Symbol {
 }
 
 /// What is still to be done.
-#[derive(Debug, Clone, Copy, PartialEq, Eq)]
+#[derive(Clone, Copy)]
 pub enum Frame {
     /// A rule from one of its symbols on.
     At(Rule, usize),

@@ -8,7 +8,7 @@ use crate::symbol::Symbol::*;
 use crate::symbol::{Look, Phrase, Symbol};
 
 /// The rules of the grammar. Paths of values have `::` before their generic arguments, those in types have not.
-#[derive(Debug, Clone, Copy, PartialEq, Eq)]
+#[derive(Clone, Copy)]
 pub enum Rule {
     Whole,
     Instantiation,

@@ -3,7 +3,7 @@
 use crate::grammar::Rule;
 
 /// What the next byte has to be.
-#[derive(Debug, Clone, Copy, PartialEq, Eq)]
+#[derive(Clone, Copy)]
 pub enum Look {
     /// Any byte, or the end.
     Any,
@@ -18,7 +18,7 @@ pub enum Look {
 }
 
 /// What productions write.
-#[derive(Debug, Clone, Copy, PartialEq, Eq)]
+#[derive(Clone, Copy)]
 pub enum Phrase {
     Comma,
     As,
@@ -39,7 +39,7 @@ pub enum Phrase {
 }
 
 /// A step of a production.
-#[derive(Debug, Clone, Copy, PartialEq, Eq)]
+#[derive(Clone, Copy)]
 pub enum Symbol {
     /// Begins a production, which is taken if the next two bytes are such and none before it was taken.
     When(Look, Look),
@@ -91,7 +91,7 @@ pub enum Symbol {
 }
 
 /// What is still to be done.
-#[derive(Debug, Clone, Copy, PartialEq, Eq)]
+#[derive(Clone, Copy)]
 pub enum Frame {
     /// A rule from one of its symbols on.
     At(Rule, usize),

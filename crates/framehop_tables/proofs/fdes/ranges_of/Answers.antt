@@ -4,7 +4,7 @@ use Rattle.framehop_index.specs.declared.cfi_index.IndexedFde.{IndexedFde}
 use Rattle.framehop_tables.specs.declared.spans.Span.{Span}
 use Rattle.framehop_tables.specs.Covered.{tabulated}
 use Rattle.framehop_tables.specs.Tabulations.{AreOf}
-use Rattle.framehop_tables.proofs.ByPartsLaws.{none-known}
+use Rattle.dwarf_cie_rows.proofs.OwnRowLaws.{none-known}
 use Rattle.framehop_tables.proofs.IndexLaws.{all-said, next-done, next-few, next-says, says-none}
 use Rattle.framehop_tables.proofs.fdes.ranges_of.Goals as goal
 

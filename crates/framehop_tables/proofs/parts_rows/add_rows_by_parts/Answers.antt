@@ -5,7 +5,7 @@ use Rattle.dwarf_frame_instructions.specs.ProgramRows.{program_of}
 use Rattle.dwarf_frame_instructions.specs.Programs.{rows_of_program}
 use Rattle.dwarf_frame_parts.specs.declared.simple_row.Columns.{Columns}
 use Rattle.dwarf_frame_parts.specs.RowParts.{parts_of}
-use Rattle.framehop_tables.specs.ByParts.{AreLeftIn}
+use Rattle.dwarf_cie_rows.specs.OwnRows.{AreLeftIn}
 use Rattle.framehop_tables.specs.Covered.{row_rules}
 use Rattle.framehop_tables.proofs.PartsRowLaws.{ended, moved, moved-past, reached-first}
 use Rattle.framehop_tables.proofs.parts_rows.add_rows_by_parts.Goals as goal

@@ -4,7 +4,7 @@ ghost use Rattle.std.specs.Prelude.{◌≡◌, None, IfSome, IsTrue};
 ghost use Rattle.std.specs.BTreeMap.{IsEmpty};
 ghost use Rattle.dwarf_frame_instructions.specs.ProgramRows.{program_of};
 ghost use Rattle.dwarf_frame_parts.specs.PartsStates.{HasRoomForParts};
-ghost use Rattle.framehop_tables.specs.ByParts.{AreLeftIn, HasCieThere, HoldsBy, IsOwnOf, left_in};
+ghost use Rattle.dwarf_cie_rows.specs.OwnRows.{AreLeftIn, HasCieThere, HoldsBy, IsOwnOf, left_in};
 
 use dwarf_frame_entries::{
     BaseAddresses, FrameDescriptionEntry, UnwindContext, UnwindContextStorage, UnwindSection,
@@ -15,21 +15,21 @@ use dwarf_readers::{Reader, ReaderOffset};
 use std::alloc::Global;
 use std::collections::BTreeMap;
 
-// What is known of the own instructions of a CIE.
+/// What is known of the own instructions of a CIE.
 #[derive(Clone, Copy)]
-pub(crate) enum OwnRow {
-    // They leave this, and a context has room for all rows that are made after it without one.
+pub enum OwnRow {
+    /// They leave this, and a context has room for all rows that are made after it without one.
     Left(LeftByCie),
-    // They fail, and so the FDEs have no rows.
+    /// They fail, and so the FDEs have no rows.
     Fails,
-    // What they leave isn't known without a context.
+    /// What they leave isn't known without a context.
     InContext,
 }
 
 impl OwnRow {
-    // What they leave, if it is known without a context.
+    /// What they leave, if it is known without a context.
     #[inline(always)]
-    pub(crate) fn left(self) -> Option<LeftByCie>
+    pub fn left(self) -> Option<LeftByCie>
         ensures { result ≡ left_in self }
     {
         match self {
@@ -39,26 +39,29 @@ impl OwnRow {
     }
 }
 
-// What is known of the CIE at an offset in its section, in bytes.
+/// What is known of the CIE at an offset in its section, in bytes.
 #[derive(Clone, Copy)]
-pub(crate) struct OwnRowAt {
-    pub(crate) offset: u64,
-    pub(crate) own: OwnRow,
+pub struct OwnRowAt {
+    /// The offset.
+    pub offset: u64,
+    /// What is known.
+    pub own: OwnRow,
 }
 
-// What is known of each CIE that an FDE named. Without memory to keep it, its instructions are executed again.
+/// What is known of each CIE that an FDE named. Without memory to keep it, its instructions are executed again.
 #[derive(Drop)]
-pub(crate) struct KnownRows {
-    // A context has room for all rows that are made without one.
-    pub(crate) has_room: bool,
-    // What was asked for last: most FDEs name the CIE of the one before.
-    pub(crate) last: Option<OwnRowAt>,
-    pub(crate) all: BTreeMap<u64, OwnRow>,
+pub struct KnownRows {
+    /// A context has room for all rows that are made without one.
+    pub has_room: bool,
+    /// What was asked for last: most FDEs name the CIE of the one before.
+    pub last: Option<OwnRowAt>,
+    /// What is known by the offset of the CIE.
+    pub all: BTreeMap<u64, OwnRow>,
 }
 
 impl KnownRows {
-    // Before any CIE.
-    pub(crate) fn new(alloc: Global, has_room: bool) -> Self
+    /// Before any CIE.
+    pub fn new(alloc: Global, has_room: bool) -> Self
         ensures room { result.has_room ≡ has_room }
         ensures last { result.last ≡ None }
         ensures all { IsEmpty result.all }
@@ -159,9 +162,9 @@ fn other_own_row<R: Reader, Section: UnwindSection<R>, S: UnwindContextStorage<R
     own
 }
 
-// What is known of the own instructions of an FDE's CIE. They are executed only if no FDE before it named that CIE.
+/// What is known of the own instructions of an FDE's CIE. They are executed only if no FDE before it named that CIE.
 #[inline(always)]
-pub(crate) fn own_row<R: Reader, Section: UnwindSection<R>, S: UnwindContextStorage<R::Offset>>(
+pub fn own_row<R: Reader, Section: UnwindSection<R>, S: UnwindContextStorage<R::Offset>>(
     columns: Columns,
     section: &Section,
     bases: &BaseAddresses,
