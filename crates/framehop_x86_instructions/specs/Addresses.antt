@@ -1,7 +1,7 @@
 -- Addresses relative to RSP or RBP.
 --
 -- Intel SDM, volume 2, 2.1.5 (tables 2-2, 2-3), 2.2.1.2 (table 2-5), 2.2.1.3.
-use Rattle.std.specs.Prelude.{ℕ, ◌+◌, ◌/◌, ◌%◌, ◌==◌, ◌&&◌, ◌||◌, ℤ, pos, Bool, if◌then◌else◌, List, slice_index, Option, Some, None, option_and_then}
+use Rattle.std.specs.Prelude.{ℕ, ◌+◌, ◌/◌, ◌%◌, ◌==◌, ◌&&◌, ◌||◌, ℤ, pos, Bool, if◌then◌else◌, List, slice_index, Option, Some, None}
 use Rattle.std.specs.Option.{option_map}
 use Rattle.framehop_x86_instructions.specs.Fields.{extended}
 use Rattle.framehop_x86_instructions.specs.ModRm.{has_sib}

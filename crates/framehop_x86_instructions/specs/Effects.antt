@@ -1,7 +1,7 @@
 -- What an instruction does to the stack pointer and other general registers, and where it goes on.
 --
 -- Intel SDM, volume 2, A.3, A.4, chapters 3 to 5 (ADD, CALL, Jcc, JMP, LEA, LEAVE, MOV, POP, PUSH, RET, SUB), 2.2.1.7 (operand sizes of 64 bits).
-use Rattle.std.specs.Prelude.{ℕ, ◌+◌, ◌==◌, ◌&&◌, ◌||◌, ℤ, pos, ◌-ℤ◌, not, Bool, true, false, if◌then◌else◌, List, slice_index, Option, Some, None, option_and_then}
+use Rattle.std.specs.Prelude.{ℕ, ◌+◌, ◌==◌, ◌&&◌, ◌||◌, ℤ, pos, ◌-ℤ◌, not, if◌then◌else◌, List, slice_index, Option, Some, None, option_and_then}
 use Rattle.std.specs.Option.{option_map, option_or}
 use Rattle.framehop_x86_instructions.specs.Addresses.{base_numbered, displacement, address_of}
 use Rattle.framehop_x86_instructions.specs.Fields.{fields_of}

@@ -1,11 +1,11 @@
 -- The fields of an instruction that name registers.
 --
 -- Intel SDM, volume 2, 2.1.3, 2.2.1.2 (figures 2-4 to 2-7), 2.3.5.6 (vvvv), A.2.2.
-use Rattle.std.specs.Prelude.{ℕ, ◌<◌, ◌+◌, ◌%◌, ◌==◌, not, Bool, true, false, if◌then◌else◌, Option, Some, None}
+use Rattle.std.specs.Prelude.{ℕ, ◌<◌, ◌+◌, ◌%◌, ◌==◌, not, Bool, true, false, if◌then◌else◌, Option, Some}
 use Rattle.framehop_x86_instructions.specs.declared.fields.Fields.{Fields}
 use Rattle.framehop_x86_instructions.specs.declared.layout.Layout.{Layout}
 use Rattle.framehop_x86_instructions.specs.declared.prefixes.Repeat.{Repeat}
-use Rattle.framehop_x86_instructions.specs.declared.prefixes.Repeat.TheVariants.{F2, F3}
+use Rattle.framehop_x86_instructions.specs.declared.prefixes.Repeat.TheVariants.{F3}
 
 -- R, X or B is the fourth bit of a number.
 abbrev pub extended : Bool → ℕ → ℕ

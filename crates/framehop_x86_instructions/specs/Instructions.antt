@@ -1,7 +1,7 @@
 -- The instruction that code begins with, in 64-bit mode.
 --
 -- Intel SDM, volume 2, 2.1, 2.3.11 (at most 15 bytes).
-use Rattle.std.specs.Prelude.{ℕ, ◌+◌, Bool, nat_lt, if◌then◌else◌, List, length, take, Option, Some, None, Result, Ok, Err}
+use Rattle.std.specs.Prelude.{ℕ, ◌+◌, nat_lt, if◌then◌else◌, List, length, take, Option, Some, None, Result, Ok, Err}
 use Rattle.framehop_x86_instructions.specs.Effects.{effect_of}
 use Rattle.framehop_x86_instructions.specs.Layouts.{layout_of, length_of}
 use Rattle.framehop_x86_instructions.specs.declared.instruction.DecodeError.{DecodeError}

@@ -1,7 +1,7 @@
 -- The parts of an instruction: prefixes, opcode, ModRM with SIB and displacement, immediates.
 --
 -- Intel SDM, volume 2, 2.1 (figure 2-1).
-use Rattle.std.specs.Prelude.{ℕ, ◌<◌, ◌≤◌, ◌+◌, Bool, if◌then◌else◌, List, slice_index}
+use Rattle.std.specs.Prelude.{ℕ, ◌<◌, ◌≤◌, ◌+◌, if◌then◌else◌, List, slice_index}
 use Rattle.framehop_x86_instructions.specs.ModRm.{modrm_of, addressing_size}
 use Rattle.framehop_x86_instructions.specs.Opcodes.{opcode_of}
 use Rattle.framehop_x86_instructions.specs.Operands.{has_modrm, immediate_size, operands_of}

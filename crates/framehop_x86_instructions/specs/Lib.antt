@@ -15,3 +15,4 @@ pub mod WrittenOpcodes
 pub mod Written
 pub mod Effects
 pub mod Instructions
+pub mod Beginnings

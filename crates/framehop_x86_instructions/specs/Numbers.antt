@@ -1,7 +1,7 @@
 -- Numbers in an instruction, lowest byte first, and in two's complement.
 --
 -- Intel SDM, volume 2, 2.1.5, 2.2.1.3 (displacements and immediates).
-use Rattle.std.specs.Prelude.{ℕ, ◌+◌, ◌*◌, ◌^◌, ℤ, pos, ◌-ℤ◌, nat_lt, if◌then◌else◌, List, slice_index}
+use Rattle.std.specs.Prelude.{ℕ, ◌+◌, ◌*◌, ℤ, pos, ◌-ℤ◌, nat_lt, if◌then◌else◌, List, slice_index}
 
 abbrev pub word_at : List ℕ → ℕ → ℕ
 word_at code at = slice_index code at + 256 * slice_index code (at + 1)

@@ -2,7 +2,7 @@
 --
 -- Intel SDM, volume 2, 2.1.2 (opcodes), 2.2.1.2 (REX prefix fields), 2.3.5 (the VEX prefix), 2.7.1 (instruction format and EVEX);
 -- AMD64 Architecture Programmer's Manual, volume 3, 1.2.7 (the XOP prefix).
-use Rattle.std.specs.Prelude.{ℕ, ◌+◌, ◌-◌, ◌/◌, ◌%◌, ◌==◌, Bool, true, false, not, nat_le, if◌then◌else◌, List, slice_index, Option, Some, None}
+use Rattle.std.specs.Prelude.{ℕ, ◌+◌, ◌-◌, ◌/◌, ◌%◌, ◌==◌, Bool, false, not, nat_le, if◌then◌else◌, List, slice_index, Option, Some, None}
 use Rattle.framehop_x86_instructions.specs.Bits.{bit}
 use Rattle.framehop_x86_instructions.specs.declared.opcode.Encoding.{Encoding}
 use Rattle.framehop_x86_instructions.specs.declared.opcode.Encoding.TheVariants.{Legacy, Vex, Evex, Xop}

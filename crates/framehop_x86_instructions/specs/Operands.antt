@@ -6,7 +6,7 @@ use Rattle.framehop_x86_instructions.specs.OpcodeMaps.{one_byte_map, two_byte_ma
 use Rattle.framehop_x86_instructions.specs.declared.opcode.Encoding.{Encoding}
 use Rattle.framehop_x86_instructions.specs.declared.opcode.Encoding.TheVariants.{Legacy, Vex, Evex, Xop}
 use Rattle.framehop_x86_instructions.specs.declared.opcode.Map.{Map}
-use Rattle.framehop_x86_instructions.specs.declared.opcode.Map.TheVariants.{OneByte, TwoByte, ThreeByte38, ThreeByte3A, Map5, Map6, Other}
+use Rattle.framehop_x86_instructions.specs.declared.opcode.Map.TheVariants.{OneByte, TwoByte, ThreeByte38, ThreeByte3A, Map5, Map6}
 use Rattle.framehop_x86_instructions.specs.declared.opcode.Opcode.{Opcode}
 use Rattle.framehop_x86_instructions.specs.declared.operands.Operands.{Operands}
 use Rattle.framehop_x86_instructions.specs.declared.operands.Operands.TheVariants.{Undefined, Nothing, Byte, Word, WordAndByte, Sized, Whole, Address, Distance, ModRm, ModRmByte, ModRmSized, ModRmTestByte, ModRmTestSized}

@@ -1,13 +1,13 @@
 -- Which general registers an instruction may write.
 --
 -- Intel SDM, volume 2, 2.2.1.2 (byte registers with REX), A.4.
-use Rattle.std.specs.Prelude.{ℕ, ◌-◌, ◌==◌, ◌&&◌, ◌||◌, not, Bool, true, false, nat_le, nat_lt, if◌then◌else◌, List, [], ◌∷◌, Option, Some, None}
+use Rattle.std.specs.Prelude.{ℕ, ◌-◌, ◌==◌, ◌&&◌, not, Bool, true, false, nat_le, nat_lt, if◌then◌else◌, [], ◌∷◌, Option, Some, None}
 use Rattle.framehop_x86_instructions.specs.Registers.{none, one, both}
 use Rattle.framehop_x86_instructions.specs.WrittenMaps.{rax, rdx, bits_of}
 use Rattle.framehop_x86_instructions.specs.declared.fields.Fields.{Fields}
 use Rattle.framehop_x86_instructions.specs.declared.registers.Registers.{Registers}
 use Rattle.framehop_x86_instructions.specs.declared.writes.Writes.{Writes}
-use Rattle.framehop_x86_instructions.specs.declared.writes.Writes.TheVariants.{Unknown, These, Reg, Rm, RmUnlessF3, NarrowReg, NarrowRm, NarrowBoth, ByteRm, Opcode, ByteOpcode, OpcodeAndRax, NarrowRmAndRax, RmRaxAndRdx, Vvvv, RegAndVvvv, Group1, Group3, Group4, Group11, Group7}
+use Rattle.framehop_x86_instructions.specs.declared.writes.Writes.TheVariants.{These, Reg, Rm, RmUnlessF3, NarrowReg, NarrowRm, NarrowBoth, ByteRm, Opcode, ByteOpcode, OpcodeAndRax, NarrowRmAndRax, RmRaxAndRdx, Vvvv, RegAndVvvv, Group1, Group3, Group4, Group11, Group7}
 
 -- The register with a number. If one byte is written, the numbers from 4 to 7 without REX are AH, CH, DH and BH.
 abbrev pub of_size : ℕ → Bool → Bool → Registers

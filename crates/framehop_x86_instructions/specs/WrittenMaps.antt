@@ -3,7 +3,6 @@
 -- Intel SDM, volume 2, A.3 (tables A-2, A-3), A.4, chapters 3 to 6 (the pages of the instructions).
 use Rattle.std.specs.Prelude.{ℕ, ◌+◌, ◌%◌, ◌^◌, nat_lt, if◌then◌else◌, List, [], ◌∷◌}
 use Rattle.framehop_x86_instructions.specs.OpcodeMaps.{within}
-use Rattle.framehop_x86_instructions.specs.declared.registers.Registers.{Registers}
 use Rattle.framehop_x86_instructions.specs.declared.writes.Writes.{Writes}
 use Rattle.framehop_x86_instructions.specs.declared.writes.Writes.TheVariants.{Unknown, These, Reg, Rm, RmUnlessF3, NarrowReg, NarrowRm, NarrowBoth, ByteRm, Opcode, ByteOpcode, OpcodeAndRax, NarrowRmAndRax, RmRaxAndRdx, Group1, Group3, Group4, Group11, Group7}
 

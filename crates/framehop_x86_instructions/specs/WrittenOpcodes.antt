@@ -1,13 +1,13 @@
 -- Which general registers an opcode may write, in all maps.
 --
 -- Intel SDM, volume 2, chapters 3 to 6 (the pages of the instructions).
-use Rattle.std.specs.Prelude.{ℕ, ◌==◌, ◌||◌, Bool, if◌then◌else◌, List, [], ◌∷◌}
+use Rattle.std.specs.Prelude.{ℕ, ◌==◌, ◌||◌, if◌then◌else◌, [], ◌∷◌}
 use Rattle.framehop_x86_instructions.specs.OpcodeMaps.{within}
 use Rattle.framehop_x86_instructions.specs.WrittenMaps.{nothing, these, rcx, one_byte_written, two_byte_written}
 use Rattle.framehop_x86_instructions.specs.declared.opcode.Encoding.{Encoding}
-use Rattle.framehop_x86_instructions.specs.declared.opcode.Encoding.TheVariants.{Legacy, Vex, Evex, Xop}
+use Rattle.framehop_x86_instructions.specs.declared.opcode.Encoding.TheVariants.{Legacy}
 use Rattle.framehop_x86_instructions.specs.declared.opcode.Map.{Map}
-use Rattle.framehop_x86_instructions.specs.declared.opcode.Map.TheVariants.{OneByte, TwoByte, ThreeByte38, ThreeByte3A, Map5, Map6, Other}
+use Rattle.framehop_x86_instructions.specs.declared.opcode.Map.TheVariants.{OneByte, TwoByte, ThreeByte38, ThreeByte3A, Map5, Map6}
 use Rattle.framehop_x86_instructions.specs.declared.writes.Writes.{Writes}
 use Rattle.framehop_x86_instructions.specs.declared.writes.Writes.TheVariants.{Unknown, Reg, Rm, RmUnlessF3, Vvvv, RegAndVvvv}
 
