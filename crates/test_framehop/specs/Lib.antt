@@ -1,2 +1,1 @@
-pub mod PeFiles
 pub mod WorkedHeader

@@ -11,22 +11,30 @@ const CIE: [u8; 20] = [
     0x10, 0, 0, 0, 0, 0, 0, 0, 1, 0, 1, 0x78, 0x10, 0, 0, 0, 0, 0, 0, 0,
 ];
 
-/// Adds an FDE of sixteen bytes of code, whose CIE is at the start of the section.
-fn push_fde(bytes: &mut Vec<u8>, start: u64) -> Result<(), AllocError> {
-    let id = u32::try_from(bytes.len()).unwrap_or(0).wrapping_add(4);
-    bytes.extend_from_slice(&20u32.to_le_bytes())?;
-    bytes.extend_from_slice(&id.to_le_bytes())?;
-    bytes.extend_from_slice(&start.to_le_bytes())?;
-    bytes.extend_from_slice(&16u64.to_le_bytes())
-}
-
-/// A section with a CIE and an FDE for each of the starts, in their order: the first at 20, and each 24 bytes long.
-fn section_of(alloc: Global, starts: &[u64]) -> Result<Vec<u8>, AllocError> {
+/// A section of this CIE, an entry with these bytes, if there are any, and an FDE of sixteen bytes of code for each of the starts, in their
+/// order. An FDE has 24 bytes.
+fn section_of(alloc: Global, entry: &[u8], starts: &[u64]) -> Result<Vec<u8>, AllocError> {
     let mut bytes = CIE.to_vec(alloc)?;
+    bytes.extend_from_slice(entry)?;
     for start in starts {
-        push_fde(&mut bytes, *start)?;
+        let id = u32::try_from(bytes.len()).unwrap_or(0).wrapping_add(4);
+        bytes.extend_from_slice(&20u32.to_le_bytes())?;
+        bytes.extend_from_slice(&id.to_le_bytes())?;
+        bytes.extend_from_slice(&start.to_le_bytes())?;
+        bytes.extend_from_slice(&16u64.to_le_bytes())?;
     }
     Ok(bytes)
+}
+
+/// The index of such a section, whose addresses are relative to the base.
+fn index_of(
+    alloc: Global,
+    entry: &[u8],
+    starts: &[u64],
+    base: u64,
+) -> Result<DwarfCfiIndex, DwarfCfiIndexError> {
+    let bytes = section_of(alloc, entry, starts)?;
+    DwarfCfiIndex::try_new_eh_frame(alloc, &bytes, &BaseAddresses::default(), base)
 }
 
 /// Starts in no order, of which about half stand twice.
@@ -52,11 +60,6 @@ fn plain_pass(starts: &[u64], address: u64) -> Option<u32> {
         offset = offset.wrapping_add(24);
     }
     nearest
-}
-
-/// The index of a section whose addresses are relative to the base.
-fn index_of(bytes: &[u8], alloc: Global, base: u64) -> Result<DwarfCfiIndex, DwarfCfiIndexError> {
-    DwarfCfiIndex::try_new_eh_frame(alloc, bytes, &BaseAddresses::default(), base)
 }
 
 /// How many look-ups differ from the plain pass, at and beside each start.
@@ -100,87 +103,86 @@ static READS: [(u32, u32); 7] = [
 fn look_ups_are_those_of_a_plain_pass_and_read_few_starts(rt: HostRuntime) {
     for &(count, most) in &READS {
         let starts = scrambled(rt.alloc(), u64::from(count)).expect(&rt, "memory");
-        let bytes = section_of(rt.alloc(), &starts).expect(&rt, "memory");
-        let index = index_of(&bytes, rt.alloc(), BASE).expect(&rt, "an index");
+        let index = index_of(rt.alloc(), &[], &starts, BASE).expect(&rt, "an index");
         assert!(rt; differing(&index, &starts) == 0, "of {count} starts");
-        let index = index_of(&bytes, rt.alloc(), BASE - 16).expect(&rt, "an index");
+        let index = index_of(rt.alloc(), &[], &starts, BASE - 16).expect(&rt, "an index");
         assert!(rt; most_reads(&index, count) == most, "of {count} starts");
     }
 }
 
-/// Starts, and how many are left out, as they are below the base or 2^32 bytes or more above it; and relative addresses with the offsets
-/// that are found for them. The first of equal starts is found.
-static FOUND: [(&[u64], usize, &[(u32, Option<u32>)]); 2] = [
+/// The entry after a section's CIE, with its length, and the starts of its FDEs; how many FDEs the index leaves out, or its error; and
+/// relative addresses with the offsets that are found for them.
+type Case = (
+    &'static [u8],
+    &'static [u64],
+    Result<usize, DwarfCfiIndexError>,
+    &'static [(u32, Option<u32>)],
+);
+
+static CASES: [Case; 8] = [
+    // the first of equal starts is found
     (
+        &[],
         &[BASE + 32, BASE + 16, BASE + 16],
-        0,
+        Ok(0),
         &[(15, None), (16, Some(44)), (32, Some(20))],
     ),
+    // starts below the base, or 2^32 bytes or more above it
     (
+        &[],
         &[0, 1, BASE - 1, BASE, BASE + (1 << 32), BASE + (1 << 32) - 1],
-        4,
+        Ok(4),
         &[
             (0, Some(20 + 3 * 24)),
             (u32::MAX - 1, Some(20 + 3 * 24)),
             (u32::MAX, Some(20 + 5 * 24)),
         ],
     ),
-];
-
-#[test]
-fn fdes_out_of_range_are_left_out(rt: HostRuntime) {
-    for &(starts, left_out, found) in &FOUND {
-        let bytes = section_of(rt.alloc(), starts).expect(&rt, "memory");
-        let index = index_of(&bytes, rt.alloc(), BASE).expect(&rt, "an index");
-        assert!(rt; index.left_out() == left_out);
-        for &(relative, offset) in found {
-            assert!(rt;
-                index.fde_offset_for_relative_address(relative) == offset,
-                "{relative}"
-            );
-        }
-    }
-}
-
-/// First entries of a section, after their lengths, and the error of one that ends the list. FDEs that can't be read: one without its
-/// range, one whose CIE is itself, and one whose CIE is at an offset that has no entry. Entries that end it: a CIE of a version that
-/// isn't known, one of an augmentation that isn't, and an FDE whose CIE would be before the section.
-static FIRSTS: [(&[u8], Option<DwarfCfiIndexError>); 6] = [
-    (&[0x18, 0, 0, 0, 0, 0, 0x40, 0, 0, 0, 0, 0], None),
+    // FDEs that can't be read: without a range, with itself as CIE, and with a CIE at an offset that has no entry
     (
-        &[
-            4, 0, 0, 0, 0, 0, 0x40, 0, 0, 0, 0, 0, 16, 0, 0, 0, 0, 0, 0, 0,
-        ],
-        None,
+        &[12, 0, 0, 0, 0x18, 0, 0, 0, 0, 0, 0x40, 0, 0, 0, 0, 0],
+        &[BASE],
+        Ok(1),
+        &[(0, Some(36))],
     ),
     (
         &[
-            0x14, 0, 0, 0, 0, 0, 0x40, 0, 0, 0, 0, 0, 16, 0, 0, 0, 0, 0, 0, 0,
+            20, 0, 0, 0, 4, 0, 0, 0, 0, 0, 0x40, 0, 0, 0, 0, 0, 16, 0, 0, 0, 0, 0, 0, 0,
         ],
-        None,
+        &[BASE],
+        Ok(1),
+        &[(0, Some(44))],
     ),
     (
-        &[0, 0, 0, 0, 2, 0, 1, 0x78, 0x10],
-        Some(DwarfCfiIndexError::Gimli(Error::UnknownVersion(2))),
+        &[
+            20, 0, 0, 0, 0x14, 0, 0, 0, 0, 0, 0x40, 0, 0, 0, 0, 0, 16, 0, 0, 0, 0, 0, 0, 0,
+        ],
+        &[BASE],
+        Ok(1),
+        &[(0, Some(44))],
+    ),
+    // a CIE of a version that isn't known, one of an augmentation that isn't, and an FDE whose CIE would be before the section
+    (
+        &[9, 0, 0, 0, 0, 0, 0, 0, 2, 0, 1, 0x78, 0x10],
+        &[BASE],
+        Err(DwarfCfiIndexError::Gimli(Error::UnknownVersion(2))),
+        &[],
     ),
     (
-        &[0, 0, 0, 0, 1, 0x7a, 0x58, 0, 1, 0x78, 0x10, 1, 0],
-        Some(DwarfCfiIndexError::Gimli(Error::UnknownAugmentation)),
+        &[
+            13, 0, 0, 0, 0, 0, 0, 0, 1, 0x7a, 0x58, 0, 1, 0x78, 0x10, 1, 0,
+        ],
+        &[BASE],
+        Err(DwarfCfiIndexError::Gimli(Error::UnknownAugmentation)),
+        &[],
     ),
     (
-        &[0x19, 0, 0, 0],
-        Some(DwarfCfiIndexError::Gimli(Error::OffsetOutOfBounds)),
+        &[4, 0, 0, 0, 0x19, 0, 0, 0],
+        &[BASE],
+        Err(DwarfCfiIndexError::Gimli(Error::OffsetOutOfBounds)),
+        &[],
     ),
 ];
-
-/// A section of two entries after its CIE, of which these bytes are the first, after its length.
-fn section_after(alloc: Global, first: &[u8]) -> Result<Vec<u8>, AllocError> {
-    let mut bytes = CIE.to_vec(alloc)?;
-    bytes.extend_from_slice(&u32::try_from(first.len()).unwrap_or(0).to_le_bytes())?;
-    bytes.extend_from_slice(first)?;
-    push_fde(&mut bytes, BASE)?;
-    Ok(bytes)
-}
 
 static NAMES: [(DwarfCfiIndexError, &str); 3] = [
     (
@@ -194,18 +196,19 @@ static NAMES: [(DwarfCfiIndexError, &str); 3] = [
     (DwarfCfiIndexError::OutOfMemory, "OutOfMemory"),
 ];
 
-/// FDEs that can't be read are left out, and a fault of the list is returned. An error is printed by its name.
+/// FDEs that can't be read or are out of range are left out, and a fault of the list is returned. An error is printed by its name.
 #[test]
-fn first_entries_are_left_out_or_end_the_list(rt: HostRuntime) {
-    for &(first, error) in &FIRSTS {
-        let bytes = section_after(rt.alloc(), first).expect(&rt, "memory");
-        match index_of(&bytes, rt.alloc(), BASE) {
+fn entries_are_left_out_or_end_the_list(rt: HostRuntime) {
+    for &(entry, starts, wanted, found) in &CASES {
+        match index_of(rt.alloc(), entry, starts, BASE) {
             Ok(index) => {
-                let offset = u32::try_from(first.len()).unwrap_or(0).wrapping_add(24);
-                assert!(rt; error == None && index.left_out() == 1);
-                assert!(rt; index.fde_offset_for_relative_address(0) == Some(offset));
+                assert!(rt; wanted == Ok(index.left_out()));
+                for &(relative, offset) in found {
+                    let is = index.fde_offset_for_relative_address(relative);
+                    assert!(rt; is == offset, "{relative}");
+                }
             }
-            Err(given) => assert!(rt; Some(given) == error, "{given:?}"),
+            Err(error) => assert!(rt; wanted == Err(error), "{error:?}"),
         }
     }
     for &(error, name) in &NAMES {

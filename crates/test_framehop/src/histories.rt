@@ -5,7 +5,7 @@ ghost use Rattle.std.specs.Prelude.{IfOk};
 ghost use Rattle.std.specs.List.{All};
 ghost use Rattle.framehop_histories.specs.CommandViews.{OfCallback};
 
-use crate::steps::module_with;
+use crate::modules::module_with;
 use framehop::aarch64::{self, SessionAarch64, UnwindRegsAarch64};
 use framehop::histories::{Answer, Command};
 use framehop::x86_64::{self, SessionX86_64, SlotCount, UnwindRegsX86_64};
@@ -13,6 +13,7 @@ use framehop::{
     AllocationPolicy, DwarfUnwindContext, FrameAddress, MayAllocateDuringUnwind,
     MustNotAllocateDuringUnwind, Session,
 };
+use framehop_unwinder::Module;
 use std::alloc::{AllocError, Global};
 use std::collections::VecDeque;
 use test_readers::WORKED;
@@ -26,11 +27,11 @@ static PUSHES: [u8; 56] = [
     1, 0, 0, 0, 0, 0,
 ];
 
-// An unwinder, a cache, a module, and a step.
+// An unwinder, a cache, a module, and a step, if memory isn't refused.
 fn commands_of<D: Drop, C: Drop, R: Copy, F: FnMut(u64) -> Result<u64, ()> + Drop>(
     alloc: Global,
-    module: framehop_unwinder::Module<D>,
-    context: C,
+    module: Result<Module<D>, AllocError>,
+    context: Result<C, AllocError>,
     regs: R,
     read_stack: F,
 ) -> Result<VecDeque<Command<D, C, R, F>>, AllocError>
@@ -40,8 +41,8 @@ fn commands_of<D: Drop, C: Drop, R: Copy, F: FnMut(u64) -> Result<u64, ()> + Dro
     let address = FrameAddress::from_instruction_pointer(0x101000);
     let mut commands = VecDeque::new(alloc);
     commands.push_back(Command::NewUnwinder)?;
-    commands.push_back(Command::NewCache(SlotCount::original(), context))?;
-    commands.push_back(Command::Load(0, module))?;
+    commands.push_back(Command::NewCache(SlotCount::original(), context?))?;
+    commands.push_back(Command::Load(0, module?))?;
     commands.push_back(Command::Step(0, 0, address, regs, read_stack))?;
     Ok(commands)
 }
@@ -61,24 +62,22 @@ fn are_wanted<R: Copy>(answers: &[Answer<R>]) -> bool {
 
 /// Whether the commands are answered as they should be on x86_64 under this policy.
 fn holds_on_x86_64<P: AllocationPolicy>(alloc: Global) -> Result<bool, AllocError> {
-    let module = module_with(alloc, &WORKED)?;
-    let context: DwarfUnwindContext<P> = DwarfUnwindContext::new(alloc)?;
+    let module = module_with(alloc, WORKED.as_slice());
+    let context = DwarfUnwindContext::<P>::new(alloc);
     let regs = UnwindRegsX86_64::new(0x101000, 0x10, 0x20);
-    let mut session: SessionX86_64<Vec<u8>, P> = Session::empty(alloc);
     let mut commands = commands_of(alloc, module, context, regs, word_at)?;
-    let answers = x86_64::perform(alloc, &mut session, &mut commands)?;
-    Ok(are_wanted(&answers))
+    let mut session: SessionX86_64<&'static [u8], P> = Session::empty(alloc);
+    Ok(are_wanted(&x86_64::perform(alloc, &mut session, &mut commands)?))
 }
 
 /// Whether the commands are answered as they should be on aarch64 under this policy.
 fn holds_on_aarch64<P: AllocationPolicy>(alloc: Global) -> Result<bool, AllocError> {
-    let module = module_with(alloc, &PUSHES)?;
-    let context: DwarfUnwindContext<P> = DwarfUnwindContext::new(alloc)?;
+    let module = module_with(alloc, PUSHES.as_slice());
+    let context = DwarfUnwindContext::<P>::new(alloc);
     let regs = UnwindRegsAarch64::new(0x100300, 0x10, 0x20);
-    let mut session: SessionAarch64<Vec<u8>, P> = Session::empty(alloc);
     let mut commands = commands_of(alloc, module, context, regs, word_at)?;
-    let answers = aarch64::perform(alloc, &mut session, &mut commands)?;
-    Ok(are_wanted(&answers))
+    let mut session: SessionAarch64<&'static [u8], P> = Session::empty(alloc);
+    Ok(are_wanted(&aarch64::perform(alloc, &mut session, &mut commands)?))
 }
 
 #[test]

@@ -17,7 +17,6 @@ mod let_go;
 mod memory;
 #[cfg(test)]
 mod modules;
-mod pe_files;
 #[cfg(test)]
 mod registers;
 #[cfg(test)]
@@ -28,4 +27,3 @@ mod sessions;
 mod steps;
 
 pub use headers::worked_header_is_truthful;
-pub use pe_files::PeFile;

@@ -1,35 +1,46 @@
 //! Modules of each kind, and what they tell of themselves.
-use crate::pe_files::PeFile;
 use framehop::aarch64::ArchAarch64;
 use framehop::x86_64::ArchX86_64;
 use framehop::{
-    ExplicitModuleSectionInfo, LeftOut, LoadOptions, Module, ModuleSectionInfo,
-    PeModuleSectionInfo, TableArch, Tabulating, UnwindDataKind, load_module,
+    BySections, ExplicitModuleSectionInfo, LeftOut, LoadOptions, Module, ModuleSectionInfo,
+    ModuleUnwindData, PeModuleSectionInfo, SectionBytes, TableArch, Tabulating, UnwindDataKind,
+    load_module,
 };
 use std::alloc::{AllocError, Global};
 use test_readers::WORKED;
 
-/// The sections that a test states.
-pub type Sections<'a> = ExplicitModuleSectionInfo<&'a [u8]>;
+/// What modules are unwound by whose sections stay.
+pub type Data = ModuleUnwindData<&'static [u8]>;
 
-/// Where modules start that are unwound by an index, by a header, by `.debug_frame`, by compact unwind info and by `.pdata`, with a rule
-/// and code by code, one without sections, and two by an index with a table of rules: of their architecture and of another one. Each has
-/// 0x10000 addresses.
-pub static STARTS: [u64; 9] = [
-    0x100000,
-    0x200000,
-    0x300000,
-    0x400000,
-    0x500000,
-    0x600000,
-    0x700000,
-    OWN_TABLE,
-    OTHER_TABLE,
+/// x86_64, with such modules.
+pub type X86_64<P> = BySections<ArchX86_64, &'static [u8], P>;
+
+/// Where modules start, each of 0x10000 addresses, what they are unwound by, and what their indexes leave out: by an index, by a header,
+/// by `.debug_frame`, by compact unwind info and by `.pdata`, with a rule and code by code; one without sections; two by an index with a
+/// table of rules, of their architecture and of another one; and three whose indexes have all FDEs, lack one that starts below the base,
+/// or aren't there, as the section is cut off in an entry.
+pub static MODULES: [(u64, UnwindDataKind, Option<LeftOut>); 12] = [
+    (0x100000, UnwindDataKind::EhFrame, Some(LeftOut::Fdes(0))),
+    (0x200000, UnwindDataKind::EhFrame, None),
+    (0x300000, UnwindDataKind::DebugFrame, Some(LeftOut::Fdes(0))),
+    (0x400000, UnwindDataKind::CompactUnwindInfo, None),
+    (0x500000, UnwindDataKind::Pdata, None),
+    (0x600000, UnwindDataKind::Pdata, None),
+    (0x700000, UnwindDataKind::NoSections, None),
+    (0xa00000, UnwindDataKind::EhFrame, Some(LeftOut::Fdes(0))),
+    (0xb00000, UnwindDataKind::EhFrame, Some(LeftOut::Fdes(0))),
+    (0xc00000, UnwindDataKind::EhFrame, Some(LeftOut::Fdes(0))),
+    (0xd00000, UnwindDataKind::EhFrame, Some(LeftOut::Fdes(1))),
+    (0xe00000, UnwindDataKind::EhFrame, Some(LeftOut::Section)),
 ];
 
-const OWN_TABLE: u64 = 0xa00000;
-
-const OTHER_TABLE: u64 = 0xb00000;
+/// The worked section, with an FDE after its own: a function of sixteen bytes at 0x1010, whose CFA is the expression RSP + 8.
+pub static BOTH: [u8; 84] = [
+    0x10, 0, 0, 0, 0, 0, 0, 0, 1, 0, 1, 0x78, 0x10, 0x0c, 7, 8, 0x90, 1, 0, 0, 0x1c, 0, 0, 0, 0x18,
+    0, 0, 0, 0, 0x10, 0, 0, 0, 0, 0, 0, 0x10, 0, 0, 0, 0, 0, 0, 0, 0x41, 0x0e, 0x10, 0x86, 2, 0x43,
+    0x0d, 6, 0x18, 0, 0, 0, 0x38, 0, 0, 0, 0x10, 0x10, 0, 0, 0, 0, 0, 0, 0x10, 0, 0, 0, 0, 0, 0, 0,
+    0x0f, 2, 0x77, 8, 0, 0, 0, 0,
+];
 
 /// An `.eh_frame_hdr` at 0x300 for the worked section at 0x200.
 static HEADER: [u8; 20] = [
@@ -66,41 +77,13 @@ static INFO: [u8; 8] = [0x01, 0x05, 0x02, 0x00, 0x05, 0x32, 0x01, 0x30];
 /// An unwind info whose codes have no rule: RBP is pushed after an allocation of 8.
 static UNDONE: [u8; 8] = [0x01, 0x02, 0x02, 0x00, 0x02, 0x50, 0x01, 0x02];
 
-/// The sections of the module that starts there; `both` is the worked section with an entry by an expression.
-fn sections_at(start: u64, both: &[u8]) -> Sections<'_> {
-    let mut sections = Sections::default();
-    match start {
-        0x200000 => {
-            sections.eh_frame = Some(WORKED.as_slice());
-            sections.eh_frame_svma = Some(0x200..0x238);
-            sections.eh_frame_hdr = Some(HEADER.as_slice());
-            sections.eh_frame_hdr_svma = Some(0x300..0x314);
-        }
-        0x300000 => sections.debug_frame = Some(NARROW.as_slice()),
-        0x400000 => sections.unwind_info = Some(COMPACT.as_slice()),
-        0x100000 | OWN_TABLE | OTHER_TABLE => sections.eh_frame = Some(both),
-        _ => {}
-    }
-    sections
-}
-
-/// A PE file whose unwind info is undone code by code.
-fn undone() -> PeModuleSectionInfo<&'static [u8]> {
-    PeModuleSectionInfo {
-        pdata: Some(ROW.as_slice()),
-        xdata_svma: Some(0x2000..0x3000),
-        xdata: Some(UNDONE.as_slice()),
-        ..Default::default()
-    }
-}
-
 /// A module with these sections from there on, if memory isn't refused, with a table of rules if one is asked for.
-pub fn module_of<'a, I: ModuleSectionInfo<&'a [u8]> + Drop>(
+fn module_of<D: SectionBytes + Drop, I: ModuleSectionInfo<D> + Drop>(
     alloc: Global,
     sections: I,
     start: u64,
     tables: Option<TableArch>,
-) -> Result<Module<&'a [u8]>, AllocError> {
+) -> Result<Module<D>, AllocError> {
     let options = LoadOptions {
         tables,
         ..Default::default()
@@ -110,58 +93,70 @@ pub fn module_of<'a, I: ModuleSectionInfo<&'a [u8]> + Drop>(
     load_module(alloc, name, range, start, sections, options)
 }
 
-/// The module that starts there.
-pub fn module_at(alloc: Global, start: u64, both: &[u8]) -> Result<Module<&[u8]>, AllocError> {
-    let tables = match start {
-        OWN_TABLE => Some(ArchX86_64::table_arch()),
-        OTHER_TABLE => Some(ArchAarch64::table_arch()),
-        _ => None,
-    };
-    let (pdata, xdata) = (ROW.as_slice(), INFO.as_slice());
-    match start {
-        0x500000 => module_of(alloc, PeFile { pdata, xdata }, start, tables),
-        0x600000 => module_of(alloc, undone(), start, tables),
-        _ => module_of(alloc, sections_at(start, both), start, tables),
-    }
+/// A module from 0x100000 on, with this section `.eh_frame`.
+pub fn module_with<D: SectionBytes + Drop>(
+    alloc: Global,
+    eh_frame: D,
+) -> Result<Module<D>, AllocError> {
+    let mut sections = ExplicitModuleSectionInfo::default();
+    sections.eh_frame = Some(eh_frame);
+    module_of(alloc, sections, 0x100000, None)
 }
 
-/// What modules are unwound by, in the order of `STARTS`, and what their indexes leave out.
-static KINDS: [(UnwindDataKind, Option<LeftOut>); 9] = [
-    (UnwindDataKind::EhFrame, Some(LeftOut::Fdes(0))),
-    (UnwindDataKind::EhFrame, None),
-    (UnwindDataKind::DebugFrame, Some(LeftOut::Fdes(0))),
-    (UnwindDataKind::CompactUnwindInfo, None),
-    (UnwindDataKind::Pdata, None),
-    (UnwindDataKind::Pdata, None),
-    (UnwindDataKind::NoSections, None),
-    (UnwindDataKind::EhFrame, Some(LeftOut::Fdes(0))),
-    (UnwindDataKind::EhFrame, Some(LeftOut::Fdes(0))),
-];
+/// The sections of the module that starts there, if it isn't of a PE file.
+fn sections_at(start: u64) -> ExplicitModuleSectionInfo<&'static [u8]> {
+    let mut sections = ExplicitModuleSectionInfo::default();
+    match start {
+        0x100000 | 0xa00000 | 0xb00000 => sections.eh_frame = Some(BOTH.as_slice()),
+        0x200000 => {
+            sections.eh_frame = Some(WORKED.as_slice());
+            sections.eh_frame_svma = Some(0x200..0x238);
+            sections.eh_frame_hdr = Some(HEADER.as_slice());
+            sections.eh_frame_hdr_svma = Some(0x300..0x314);
+        }
+        0x300000 => sections.debug_frame = Some(NARROW.as_slice()),
+        0x400000 => sections.unwind_info = Some(COMPACT.as_slice()),
+        0xc00000 | 0xd00000 => {
+            sections.eh_frame = Some(WORKED.as_slice());
+            sections.base_svma = if start == 0xc00000 { 0x1000 } else { 0x1001 };
+        }
+        0xe00000 => sections.eh_frame = WORKED.get(..30),
+        _ => {}
+    }
+    sections
+}
 
-/// An index leaves out an FDE that starts below the base. A section that is cut off in an entry has none.
+/// The module that starts there.
+pub fn module_at(alloc: Global, start: u64) -> Result<Module<&'static [u8]>, AllocError> {
+    let tables = match start {
+        0xa00000 => Some(ArchX86_64::table_arch()),
+        0xb00000 => Some(ArchAarch64::table_arch()),
+        _ => None,
+    };
+    let xdata = match start {
+        0x500000 => INFO.as_slice(),
+        0x600000 => UNDONE.as_slice(),
+        _ => return module_of(alloc, sections_at(start), start, tables),
+    };
+    let sections = PeModuleSectionInfo {
+        pdata: Some(ROW.as_slice()),
+        xdata_svma: Some(0x2000..0x3000),
+        xdata: Some(xdata),
+        ..Default::default()
+    };
+    module_of(alloc, sections, start, tables)
+}
+
 #[test]
 fn modules_tell_of_themselves(rt: HostRuntime) {
-    for (start, (kind, left_out)) in STARTS.iter().zip(&KINDS) {
-        let module = module_at(rt.alloc(), *start, &WORKED).expect(&rt, "memory");
+    for &(start, kind, left_out) in &MODULES {
+        let module = module_at(rt.alloc(), start).expect(&rt, "memory");
         let (data, range) = (module.unwind_data(), module.avma_range());
         assert!(rt;
-            data.kind() == *kind && data.left_out() == *left_out,
+            data.kind() == kind && data.left_out() == left_out,
             "{start:x}"
         );
-        assert!(rt; module.name() == "m" && module.base_avma() == *start);
-        assert!(rt; (range.start, range.end) == (*start, start.wrapping_add(0x10000)));
-    }
-    for (count, base_svma, left_out) in [
-        (56, 0x1000, LeftOut::Fdes(0)),
-        (56, 0x1001, LeftOut::Fdes(1)),
-        (30, 0, LeftOut::Section),
-    ] {
-        let sections = Sections {
-            base_svma,
-            eh_frame: WORKED.get(..count),
-            ..Default::default()
-        };
-        let module = module_of(rt.alloc(), sections, 0x100000, None).expect(&rt, "memory");
-        assert!(rt; module.unwind_data().left_out() == Some(left_out));
+        assert!(rt; module.name() == "m" && module.base_avma() == start);
+        assert!(rt; (range.start, range.end) == (start, start.wrapping_add(0x10000)));
     }
 }

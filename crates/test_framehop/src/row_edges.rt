@@ -1,12 +1,13 @@
 //! Rows of aarch64 at the edges of what unwind rules say, each beside the same row with its CFA as an
 //! expression, which no rule says.
 
-use crate::modules::{Sections, module_of};
-use crate::sessions::step_twice;
-use crate::steps::frame_at;
+use crate::modules::module_with;
+use crate::steps::{cache_of, frame_of, unwinder_of};
 use dwarf_readers::leb128::Leb128;
 use framehop::aarch64::{ArchAarch64, PtrAuthMask, UnwindRegsAarch64};
-use framehop::{BySections, MustNotAllocateDuringUnwind};
+use framehop::{
+    BySections, ModuleUnwindData, ModuleUnwinding, MustNotAllocateDuringUnwind, Unwinder,
+};
 use std::alloc::{AllocError, Global};
 use std::process::Abort;
 
@@ -81,34 +82,27 @@ fn word_at(address: u64) -> Result<u64, ()> {
     Ok(address.wrapping_add(0x2b00_0000_0100_0000))
 }
 
+type Aarch64 = BySections<ArchAarch64, Vec<u8>, MustNotAllocateDuringUnwind>;
+
 /// What the last of two equal steps gives and leaves, and whether its rule was found again.
 type Stepped = (Option<u64>, (u64, u64, u64), bool);
 
-/// Two equal steps in a module with a row, from a first or a later frame.
-fn step_by(
-    rt: &impl Abort,
-    alloc: Global,
-    (is_expression, row): (bool, Row),
-    is_first: bool,
-) -> Stepped {
-    let section = with_row(alloc, is_expression, row).expect(rt, "memory");
-    let sections = Sections {
-        eh_frame: Some(section.as_slice()),
-        ..Default::default()
-    };
-    let module = module_of(alloc, sections, 0, None).expect(rt, "memory");
-    let frame = frame_at(is_first, if is_first { 0x1004 } else { 0x1005 });
-    let regs = UnwindRegsAarch64::new_with_ptr_auth_mask(PtrAuthMask::new_24_40(), 0x1234, SP, FP);
-    let (stepped, hits) = step_twice::<
-        BySections<ArchAarch64, &[u8], MustNotAllocateDuringUnwind>,
-        _,
-    >(rt, alloc, module, frame, regs, word_at);
-    let (answer, regs) = stepped.expect(rt, "a step");
-    (
-        answer.ok().flatten(),
-        (regs.lr(), regs.sp(), regs.fp()),
-        hits == 1,
-    )
+/// Two equal steps in a module with a section, from a first or a later frame.
+fn step_by<
+    A: ModuleUnwinding<UnwindRegs = UnwindRegsAarch64, UnwindData = ModuleUnwindData<Vec<u8>>>,
+>(rt: &impl Abort, alloc: Global, section: Vec<u8>, is_first: bool) -> Stepped {
+    let module = module_with(alloc, section).expect(rt, "memory");
+    let unwinder = unwinder_of::<A>(rt, alloc, module);
+    let mut cache = cache_of::<A>(rt, alloc);
+    let address = if is_first { 0x101004 } else { 0x101005 };
+    let frame = frame_of(is_first, address).expect(rt, "a frame");
+    let first = UnwindRegsAarch64::new_with_ptr_auth_mask(PtrAuthMask::new_24_40(), 0x1234, SP, FP);
+    let (mut regs, mut read_stack) = (first, word_at);
+    let _ = unwinder.unwind_frame(frame, &mut regs, &mut cache, &mut read_stack);
+    regs = first;
+    let answer = unwinder.unwind_frame(frame, &mut regs, &mut cache, &mut read_stack);
+    let left = (regs.lr(), regs.sp(), regs.fp());
+    (answer.ok().flatten(), left, cache.stats().hits() == 1)
 }
 
 /// Whether a signed field of words says where a register is stored, if it is stored.
@@ -132,10 +126,12 @@ fn has_rule((register, offset, fp, lr): Row) -> bool {
 
 /// Wants that both forms of a row give one caller, and that only the form that a rule says is kept.
 fn check(rt: &impl Abort, alloc: Global, row: Row, is_first: bool) {
-    let (to, regs, is_kept) = step_by(rt, alloc, (false, row), is_first);
-    let direct = step_by(rt, alloc, (true, row), is_first);
-    assert!(rt; to.is_some() && direct == (to, regs, false), "{row:?}");
-    assert!(rt; is_kept == has_rule(row), "{row:?}");
+    let section = with_row(alloc, false, row).expect(rt, "memory");
+    let (to, regs, is_kept) = step_by::<Aarch64>(rt, alloc, section, is_first);
+    let section = with_row(alloc, true, row).expect(rt, "memory");
+    let direct = step_by::<Aarch64>(rt, alloc, section, is_first);
+    let is_wanted = to.is_some() && direct == (to, regs, false) && is_kept == has_rule(row);
+    assert!(rt; is_wanted, "{row:?}");
 }
 
 /// Offsets of the CFA at the edges of what fields say, and beside them.
