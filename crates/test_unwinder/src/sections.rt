@@ -1,7 +1,7 @@
 //! The sections that are taken of a module.
 use framehop_modules::{BaseSvmas, ExplicitModuleSectionInfo, ModuleSectionInfo, ModuleSections};
 
-type Info<'a> = ExplicitModuleSectionInfo<&'a [u8]>;
+type Info = ExplicitModuleSectionInfo<&'static [u8]>;
 
 // A short name of what is taken.
 fn taken(sections: &ModuleSections<&[u8]>) -> u8 {
@@ -14,35 +14,48 @@ fn taken(sections: &ModuleSections<&[u8]>) -> u8 {
     }
 }
 
+type Bytes = Option<&'static [u8]>;
+
+const BYTES: Bytes = Some(b"1");
+
+/// The data of `.debug_frame`, `.eh_frame` and `__unwind_info`, and what is taken of them, one choice after the other.
+static CHOICES: [(Bytes, Bytes, Bytes, &[u8]); 4] = [
+    (None, None, None, &[5]),
+    (BYTES, None, None, &[4]),
+    (BYTES, BYTES, None, &[3, 4]),
+    (None, BYTES, BYTES, &[1]),
+];
+
 /// Compact unwind info goes before `.eh_frame`, that before `.debug_frame`.
 #[test]
 fn takes_the_first_kind(rt: HostRuntime) {
-    let bytes = b"1".as_slice();
-    let mut info: Info = ExplicitModuleSectionInfo::default();
-    assert!(rt; taken(&ModuleSections::choose(&mut info)) == 5);
-    info.debug_frame = Some(bytes);
-    assert!(rt; taken(&ModuleSections::choose(&mut info)) == 4);
-    info.debug_frame = Some(bytes);
-    info.eh_frame = Some(bytes);
-    assert!(rt; taken(&ModuleSections::choose(&mut info)) == 3);
-    assert!(rt; taken(&ModuleSections::choose(&mut info)) == 4);
-    info.eh_frame = Some(bytes);
-    info.unwind_info = Some(bytes);
-    assert!(rt; taken(&ModuleSections::choose(&mut info)) == 1);
+    for &(debug_frame, eh_frame, unwind_info, kinds) in &CHOICES {
+        let mut info: Info = ExplicitModuleSectionInfo::default();
+        info.debug_frame = debug_frame;
+        info.eh_frame = eh_frame;
+        info.unwind_info = unwind_info;
+        for kind in kinds {
+            assert!(rt; taken(&ModuleSections::choose(&mut info)) == *kind);
+        }
+    }
 }
+
+/// Names, and the data that is handed out under each, one after the other.
+static NAMES: [(&str, Bytes); 3] = [("text", None), (".text", BYTES), ("__text", None)];
 
 /// Data is handed out once, under either of a section's names, and ranges as often as they are
 /// asked for.
 #[test]
 fn hands_data_out_once(rt: HostRuntime) {
     let mut info: Info = ExplicitModuleSectionInfo::default();
-    info.text = Some(b"2".as_slice());
+    info.text = BYTES;
     info.text_svma = Some(0x10..0x20);
-    assert!(rt; info.section_data(b"text") == None);
-    assert!(rt; info.section_data(b".text") == Some(b"2".as_slice()));
-    assert!(rt; info.section_data(b"__text") == None);
-    assert!(rt; info.section_svma_range(b"__text") == Some(0x10..0x20));
-    assert!(rt; info.section_svma_range(b".text") == Some(0x10..0x20));
+    for &(name, data) in &NAMES {
+        assert!(rt; info.section_data(name.as_bytes()) == data);
+    }
+    for name in ["__text", ".text"] {
+        assert!(rt; info.section_svma_range(name.as_bytes()) == Some(0x10..0x20));
+    }
     assert!(rt; info.segment_data(b"__TEXT") == None);
     let bases = BaseSvmas {
         eh_frame: 0,

@@ -1,12 +1,14 @@
 //! Walks, by iterators and move by move.
 use crate::callers::addresses_of;
-use crate::tables::Said;
+use crate::tables::{Row, Said};
 use crate::worked::{Toy, session_of, unwinder_of, word_at};
 use framehop_registers::x86_64::UnwindRegsX86_64;
 use framehop_unwinder::{
-    Cache, CacheId, CacheStats, Error, FrameAddress, Session, StackWalk, Unwinder, UnwinderId,
+    Cache, CacheId, CacheStats, Error, FrameAddress, ModuleUnwinding, Session, StackWalk, Unwinder,
+    UnwinderId,
 };
-use std::alloc::{AllocError, Global};
+use std::alloc::Global;
+use std::process::Abort;
 
 type Regs = UnwindRegsX86_64;
 
@@ -89,85 +91,97 @@ static WALKS: [Walk; 3] = [
     },
 ];
 
-// So many moves by an unwinder's iterator, of the second of two walks through one cache; and what this counted of both.
-fn by_unwinder(alloc: Global, walk: &Walk) -> Result<(Vec<Moved>, CacheStats), AllocError> {
-    let unwinder = unwinder_of(alloc, walk.said)?;
-    let mut cache = Cache::new(alloc, ())?;
-    let mut moves = Vec::new(alloc);
+// Makes a walk twice by an unwinder's iterator, through one cache, and gives what this counted.
+fn check_unwinder<A: ModuleUnwinding<UnwindRegs = Regs, UnwindData = Vec<Row>>>(
+    rt: &impl Abort,
+    alloc: Global,
+    walk: &Walk,
+) -> CacheStats {
+    let unwinder = unwinder_of::<A>(rt, alloc, walk.said);
+    let context = A::unwind_context(alloc).expect(rt, "memory");
+    let mut cache = Cache::new(alloc, context).expect(rt, "memory");
     for _ in 0..2 {
-        moves.clear();
         let mut read_stack = word_at;
         let regs = UnwindRegsX86_64::new(walk.pc, 0x10, walk.bp);
         let mut frames = unwinder.iter_frames(walk.pc, regs, &mut cache, &mut read_stack);
-        for _ in 0..walk.by_unwinder.len() {
-            moves.push(shown(frames.next()))?;
+        for wanted in walk.by_unwinder {
+            assert!(rt; shown(frames.next()) == *wanted);
         }
     }
-    Ok((moves, cache.stats()))
+    cache.stats()
 }
 
-// The same by a session's iterator.
-fn by_session(alloc: Global, walk: &Walk) -> Result<(Vec<Moved>, CacheStats), AllocError> {
-    let mut session = session_of(alloc, walk.said)?;
+// Makes a walk by a session's iterator.
+fn check_session<A: ModuleUnwinding<UnwindRegs = Regs>>(
+    rt: &impl Abort,
+    session: &mut Session<A>,
+    walk: &Walk,
+) {
     let (unwinder, cache) = (UnwinderId::numbered(0), CacheId::numbered(0));
-    let mut moves = Vec::new(alloc);
-    for _ in 0..2 {
-        moves.clear();
-        if !session.has(unwinder, cache) {
-            return Err(AllocError);
-        }
-        let mut read_stack = word_at;
-        let regs = UnwindRegsX86_64::new(walk.pc, 0x10, walk.bp);
-        let mut frames = session.iter_frames(unwinder, cache, walk.pc, regs, &mut read_stack);
-        for _ in 0..walk.by_session.len() {
-            moves.push(shown(frames.next()))?;
-        }
-    }
-    match session.stats(cache) {
-        Ok(stats) => Ok((moves, stats)),
-        Err(_) => Err(AllocError),
+    assert!(rt; session.has(unwinder, cache));
+    let mut read_stack = word_at;
+    let regs = UnwindRegsX86_64::new(walk.pc, 0x10, walk.bp);
+    let mut frames = session.iter_frames(unwinder, cache, walk.pc, regs, &mut read_stack);
+    for wanted in walk.by_session {
+        assert!(rt; shown(frames.next()) == *wanted);
     }
 }
 
-/// The first walk keeps the rules that the second finds, of the whole stack.
+// Makes a walk twice by each. The first walk keeps the rules that the second finds, of the whole stack.
+fn check_walk<A: ModuleUnwinding<UnwindRegs = Regs, UnwindData = Vec<Row>>>(
+    rt: &impl Abort,
+    alloc: Global,
+    walk: &Walk,
+) {
+    let stats = check_unwinder::<A>(rt, alloc, walk);
+    let mut session = session_of::<A>(rt, alloc, walk.said);
+    for _ in 0..2 {
+        check_session(rt, &mut session, walk);
+    }
+    let counts = session.stats(CacheId::numbered(0));
+    let is_whole = walk.by_session.len() == WHOLE.len();
+    assert!(rt; !is_whole || counts == Ok(stats) && stats.hits() == 4 && stats.misses() == 4);
+}
+
 #[test]
 fn walks_by_iterators(rt: HostRuntime) {
     for walk in &WALKS {
-        let (moves, stats) = by_unwinder(rt.alloc(), walk).expect(&rt, "memory");
-        assert!(rt; moves.as_slice() == walk.by_unwinder, "{moves:?}");
-        let (others, counts) = by_session(rt.alloc(), walk).expect(&rt, "memory");
-        assert!(rt; others.as_slice() == walk.by_session, "{others:?}");
-        let is_whole = walk.by_session.len() == WHOLE.len();
-        assert!(rt; !is_whole || stats == counts && stats.hits() == 4 && stats.misses() == 4);
+        check_walk::<Toy>(&rt, rt.alloc(), walk);
     }
 }
 
-/// The session can be used again afterwards.
-#[test]
-fn addresses_of_a_sessions_frames(rt: HostRuntime) {
-    let mut session = session_of(rt.alloc(), Said::StubRule).expect(&rt, "memory");
+/// How many addresses are asked for at most, one time after the other, and those that are given.
+static PARTS: [(usize, &[u64]); 2] = [(2, &[0x101000, 0x100300]), (9, &[0x100200, 0x100100])];
+
+// Takes the addresses of a session's frames in two parts.
+fn check_addresses<A: ModuleUnwinding<UnwindRegs = Regs, UnwindData = Vec<Row>>>(
+    rt: &impl Abort,
+    alloc: Global,
+) {
+    let mut session = session_of::<A>(rt, alloc, Said::StubRule);
     let (unwinder, cache) = (UnwinderId::numbered(0), CacheId::numbered(0));
     assert!(rt; session.has(unwinder, cache));
     let mut read_stack = word_at;
     let regs = UnwindRegsX86_64::new(0x101000, 0x10, 0x20);
     let mut frames = session.iter_frames(unwinder, cache, 0x101000, regs, &mut read_stack);
-    let first_two = addresses_of(rt.alloc(), &mut frames, 2).expect(&rt, "memory");
-    let others = addresses_of(rt.alloc(), &mut frames, 9).expect(&rt, "memory");
-    assert!(rt; first_two.as_slice() == [0x101000, 0x100300].as_slice());
-    assert!(rt; others.as_slice() == [0x100200, 0x100100].as_slice());
+    for &(most, wanted) in &PARTS {
+        let addresses = addresses_of(alloc, &mut frames, most).expect(rt, "memory");
+        assert!(rt; addresses.as_slice() == wanted);
+    }
     assert!(rt; session.has(unwinder, cache));
 }
 
-/// Where a walk is that was not begun, or is at a frame.
-#[derive(Clone, Copy)]
-enum Place {
-    Before(u64),
-    AtFirst(u64),
-    AtLater(u64),
+/// The session can be used again afterwards.
+#[test]
+fn addresses_of_a_sessions_frames(rt: HostRuntime) {
+    check_addresses::<Toy>(&rt, rt.alloc());
 }
 
 /// What a move gives, and the stack pointer then.
 type Step = (Moved, u64);
+
+/// Where a walk is: at a frame that is a later one or not, or at none yet; and the address of its frame.
+type Place = (Option<bool>, u64);
 
 /// What the module says, where a walk is with which stack pointer and frame pointer, its moves, one more after the module is unloaded,
 /// and what the cache counted: hits, empty slots and wrong modules.
@@ -184,7 +198,7 @@ static MOVES: [Case; 6] = [
     // without a module
     (
         Said::StubRule,
-        Place::Before(0x200000),
+        (None, 0x200000),
         (0x10, 0x20),
         &[
             (first!(0x200000), 0x10),
@@ -198,7 +212,7 @@ static MOVES: [Case; 6] = [
     // after an error a walk is where it was
     (
         Said::StubRule,
-        Place::Before(0x200000),
+        (None, 0x200000),
         (0x10, 0x1000),
         &[(first!(0x200000), 0x10), (UNREAD, 0x10), (UNREAD, 0x10)],
         (UNREAD, 0x10),
@@ -207,7 +221,7 @@ static MOVES: [Case; 6] = [
     // at a frame that was found
     (
         Said::StubRule,
-        Place::AtFirst(0x100300),
+        (Some(false), 0x100300),
         (0x18, 0x20),
         &[
             (later!(0x100200), 0x30),
@@ -219,7 +233,7 @@ static MOVES: [Case; 6] = [
     ),
     (
         Said::StubRule,
-        Place::AtLater(0x100300),
+        (Some(true), 0x100300),
         (0x18, 0x20),
         &[
             (later!(0x100200), 0x30),
@@ -232,7 +246,7 @@ static MOVES: [Case; 6] = [
     // A walk stays at the frame whose caller has the return address 0. If that caller isn't null at the next move, it goes on from there.
     (
         Said::NullCaller,
-        Place::AtFirst(0x101000),
+        (Some(false), 0x101000),
         (0x10, 0x20),
         &[(NULL, 0x10), (NULL, 0x10)],
         (later!(0x100200), 0x30),
@@ -241,7 +255,7 @@ static MOVES: [Case; 6] = [
     // where memory is refused nothing is kept
     (
         Said::WantsMemory,
-        Place::AtFirst(0x101000),
+        (Some(false), 0x101000),
         (0x10, 0x20),
         &[(REFUSED, 0x10), (REFUSED, 0x10)],
         (later!(0x100200), 0x30),
@@ -249,20 +263,23 @@ static MOVES: [Case; 6] = [
     ),
 ];
 
-fn walk_at(place: Place, (sp, bp): (u64, u64)) -> StackWalk<Regs> {
-    let frame = match place {
-        Place::Before(pc) => return StackWalk::new(pc, UnwindRegsX86_64::new(pc, sp, bp)),
-        Place::AtFirst(pc) => FrameAddress::from_instruction_pointer(pc),
-        Place::AtLater(address) => match FrameAddress::from_return_address(address) {
-            Some(frame) => frame,
-            None => FrameAddress::from_instruction_pointer(0),
-        },
+fn walk_at((is_later, address): Place, (sp, bp): (u64, u64)) -> StackWalk<Regs> {
+    let regs = UnwindRegsX86_64::new(address, sp, bp);
+    let Some(is_later) = is_later else {
+        return StackWalk::new(address, regs);
     };
-    StackWalk::at(frame, UnwindRegsX86_64::new(frame.address(), sp, bp))
+    let frame = match FrameAddress::from_return_address(address) {
+        Some(frame) if is_later => frame,
+        _ => FrameAddress::from_instruction_pointer(address),
+    };
+    StackWalk::at(frame, regs)
 }
 
 // The next move of a walk, if there are an unwinder and a cache.
-fn next(session: &mut Session<Toy>, walk: &mut StackWalk<Regs>) -> Option<Step> {
+fn next<A: ModuleUnwinding<UnwindRegs = Regs>>(
+    session: &mut Session<A>,
+    walk: &mut StackWalk<Regs>,
+) -> Option<Step> {
     let (unwinder, cache) = (UnwinderId::numbered(0), CacheId::numbered(0));
     let mut read_stack = word_at;
     let answer = session
@@ -271,29 +288,39 @@ fn next(session: &mut Session<Toy>, walk: &mut StackWalk<Regs>) -> Option<Step> 
     Some((shown(answer), walk.regs().sp()))
 }
 
+// Makes the moves of a case.
+fn check_moves<A: ModuleUnwinding<UnwindRegs = Regs, UnwindData = Vec<Row>>>(
+    rt: &impl Abort,
+    alloc: Global,
+    &(said, place, registers, moves, after, counts): &Case,
+) {
+    let mut session = session_of::<A>(rt, alloc, said);
+    let mut walk = walk_at(place, registers);
+    for wanted in moves {
+        assert!(rt; next(&mut session, &mut walk) == Some(*wanted));
+    }
+    assert!(rt; session.unload(UnwinderId::numbered(0), 0x100000) == Ok(Ok(())));
+    assert!(rt; next(&mut session, &mut walk) == Some(after));
+    let stats = session.stats(CacheId::numbered(0)).expect(rt, "a cache");
+    let (empty, modules) = (stats.miss_empty_slot_count, stats.miss_wrong_modules_count);
+    assert!(rt; (stats.hits(), empty, modules) == counts && stats.miss_wrong_address_count == 0);
+}
+
 #[test]
 fn walks_by_moves(rt: HostRuntime) {
-    for (said, place, registers, moves, after, (hits, empty, modules)) in &MOVES {
-        let mut session = session_of(rt.alloc(), *said).expect(&rt, "memory");
-        let mut walk = walk_at(*place, *registers);
-        for wanted in *moves {
-            assert!(rt; next(&mut session, &mut walk) == Some(*wanted));
-        }
-        assert!(rt; session.unload(UnwinderId::numbered(0), 0x100000) == Ok(Ok(())));
-        assert!(rt; next(&mut session, &mut walk) == Some(*after));
-        let stats = session.stats(CacheId::numbered(0)).expect(&rt, "a cache");
-        assert!(rt; stats.hits() == *hits && stats.miss_wrong_address_count == 0);
-        assert!(rt;
-            (stats.miss_empty_slot_count, stats.miss_wrong_modules_count) == (*empty, *modules)
-        );
+    for case in &MOVES {
+        check_moves::<Toy>(&rt, rt.alloc(), case);
     }
 }
 
-/// A step whose rule is in the cache reads the words of that rule, each once.
-#[test]
-fn hits_read_the_words_of_their_rule(rt: HostRuntime) {
-    let unwinder = unwinder_of(rt.alloc(), Said::StubRule).expect(&rt, "memory");
-    let mut cache = Cache::new(rt.alloc(), ()).expect(&rt, "memory");
+// Makes equal steps, each with the words that it reads.
+fn check_reads<A: ModuleUnwinding<UnwindRegs = Regs, UnwindData = Vec<Row>>>(
+    rt: &impl Abort,
+    alloc: Global,
+) {
+    let unwinder = unwinder_of::<A>(rt, alloc, Said::StubRule);
+    let context = A::unwind_context(alloc).expect(rt, "memory");
+    let mut cache = Cache::new(alloc, context).expect(rt, "memory");
     let frame = FrameAddress::from_instruction_pointer(0x101000);
     for hits in 0..3 {
         let mut read = (0u64, 0);
@@ -306,4 +333,10 @@ fn hits_read_the_words_of_their_rule(rt: HostRuntime) {
         assert!(rt; answer == Ok(Some(0x100300)) && read == (1, 0x10));
         assert!(rt; cache.stats().hits() == hits);
     }
+}
+
+/// A step whose rule is in the cache reads the words of that rule, each once.
+#[test]
+fn hits_read_the_words_of_their_rule(rt: HostRuntime) {
+    check_reads::<Toy>(&rt, rt.alloc());
 }
