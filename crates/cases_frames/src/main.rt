@@ -1,26 +1,33 @@
-//! Shows what is read in sections of call frames, for each line of the input.
+//! Shows what is read in sections of call frames and made of them, for each line of the input.
 //!
-//! The first word of a line says what is shown, and after it come the words that are said there: `rows`, the rows that an entry
-//! makes or that a section has for addresses, at [`RowsCase::parse`]; `section`, all entries, at [`SectionCase::parse`]; `table`, a
-//! header and its table, at [`Table::parse`]; and `entries`, what a header leads to, at [`Entries::parse`]. `scripts/frame-rows`,
-//! `frame-sections` and `frame-headers` write these lines and what is to be shown.
+//! The first word of a line says what is shown. `headers`, the entries to which a header leads, is at [`show_headers`]; `steps`, the
+//! rows of a context, at [`show_steps`]; and all else, of bytes that readers of each kind read, at [`Case::parse`]. Before that, `fronts`
+//! has it shown of each front of the bytes, and `turned` of the bytes with each one set to others. `scripts/frame-cases` has the scripts
+//! that write these lines and what is to be shown.
 #![tactic(auto)]
 
-mod damage;
-mod fdes;
+mod case;
+mod entries;
+mod expressions;
 mod headers;
+mod instructions;
+mod lines;
+mod lookups;
+mod pointers;
 mod rows;
-mod sections;
+mod steps;
+mod storages;
 mod tables;
+mod texts;
 mod words;
 
-use anyhow::{Result, bail};
-use headers::Entries;
-use rows::RowsCase;
-use sections::SectionCase;
+use anyhow::Result;
+use case::Case;
+use headers::show_headers;
 use std::alloc::Global;
 use std::io::Read;
-use tables::Table;
+use steps::show_steps;
+use texts::show_texts;
 
 fn main(rt: HostRuntime) -> Result<()> {
     let mut input = Vec::new(rt.alloc());
@@ -34,12 +41,13 @@ fn main(rt: HostRuntime) -> Result<()> {
 
 // What is shown for a line.
 fn show(alloc: Global, line: &str) -> Result<String> {
-    let (kind, rest) = line.split_once(' ').unwrap_or((line, ""));
-    match kind {
-        "rows" => RowsCase::parse(alloc, rest)?.show(alloc),
-        "section" => SectionCase::parse(alloc, rest)?.show(alloc),
-        "table" => Table::parse(alloc, rest)?.show(alloc),
-        "entries" => Entries::parse(alloc, rest)?.show(alloc),
-        _ => bail!("nothing is shown by this name"),
+    let (first, rest) = line.split_once(' ').unwrap_or((line, ""));
+    match first {
+        "fronts" => Case::parse(alloc, rest)?.show_fronts(alloc),
+        "turned" => Case::parse(alloc, rest)?.show_turned(alloc),
+        "headers" => show_headers(alloc, rest),
+        "steps" => show_steps(alloc, rest),
+        "texts" => show_texts(alloc),
+        _ => Case::parse(alloc, line)?.show(alloc),
     }
 }

@@ -1,137 +1,92 @@
-//! The rows that entries make, and what sections have for addresses, whole, cut and turned.
+//! The rows of an FDE, one after the other and by address.
 
-mod asked;
-mod lookups;
-mod programs;
-mod readers;
-mod storages;
-
-use crate::damage::{Listing, with_byte};
-use crate::words::{Which, bytes, numbers, vendor, which_section, word};
-use anyhow::Result;
-use asked::Asked;
-use dwarf_constants::Vendor;
-use dwarf_frame_entries::{UnwindContext, UnwindContextStorage};
-use dwarf_frame_rows::StoreOnHeap;
-use readers::over_readers;
+use crate::lines::{answer_line, line_of};
+use crate::lookups::fde_at;
+use anyhow::{Context, Result};
+use dwarf_frame_entries::{
+    BaseAddresses, FrameDescriptionEntry, UnwindContext, UnwindContextStorage, UnwindOffset,
+    UnwindSection, UnwindTable,
+};
+use dwarf_readers::{Reader, ReaderOffset};
 use std::alloc::Global;
-use storages::{Growing, One, Small};
 
-// What is shown of a section.
-#[derive(Clone, Copy)]
-enum What {
-    // The rows of the FDE at an offset.
-    Program(u8),
-    // What the section has for the addresses.
-    Lookups,
-    // The same of each front of the section.
-    Fronts,
-    // The same of the section with each byte set to others.
-    Turned,
-}
+// How many rows of an entry are shown at most.
+const MOST_ROWS: usize = 100_000;
 
-/// A section, and what is asked of it.
-#[derive(Drop)]
-pub struct RowsCase {
-    which: Which,
-    vendor: Vendor,
-    bytes: Vec<u8>,
-    what: What,
-    addresses: Vec<u64>,
-}
-
-// The values to which each byte is set.
-const VALUES: [u8; 4] = [0x00, 0x7f, 0x80, 0xff];
-
-// What is shown by contexts of a storage, for both sizes of offsets.
-fn in_storage<S: UnwindContextStorage<usize>, Short: UnwindContextStorage<u32>>(
+// Adds a line for each row of a table, and for the error, after which there is no row.
+fn show_table<R: Reader, S: UnwindContextStorage<R::Offset>>(
     alloc: Global,
-    asked: Asked<'_>,
-    bytes: &[u8],
-) -> Result<String> {
-    let mut context: UnwindContext<usize, S> = UnwindContext::new_in(alloc)?;
-    let mut short: UnwindContext<u32, Short> = UnwindContext::new_in(alloc)?;
-    over_readers(alloc, asked, bytes, &mut context, &mut short)
-}
-
-// The rows and the errors of an entry in each storage, the last two of which few rules and rows fill.
-fn in_storages(alloc: Global, asked: Asked<'_>, bytes: &[u8]) -> Result<String> {
-    let growing = in_storage::<Growing, Growing>(alloc, asked, bytes)?;
-    let heap = in_storage::<StoreOnHeap, StoreOnHeap>(alloc, asked, bytes)?;
-    let small = in_storage::<Small, Small>(alloc, asked, bytes)?;
-    let one = in_storage::<One, One>(alloc, asked, bytes)?;
-    Ok(format!(in alloc; "growing\n{growing}on the heap\n{heap}small\n{small}one\n{one}")?)
-}
-
-// What is asked for, of a whole line.
-fn what_is_shown(word: &str) -> Result<What> {
-    match word {
-        "-" => Ok(What::Lookups),
-        "fronts" => Ok(What::Fronts),
-        "turned" => Ok(What::Turned),
-        offset => Ok(What::Program(offset.parse::<u8>()?)),
-    }
-}
-
-impl RowsCase {
-    /// Reads words: which section it is, whose extensions are read, the bytes in hexadecimal, the FDE's
-    /// offset or `-`, `fronts` or `turned`, and addresses.
-    pub fn parse(alloc: Global, line: &str) -> Result<Self> {
-        let mut words = line.split_whitespace();
-        Ok(RowsCase {
-            which: which_section(&mut words),
-            vendor: vendor(&mut words),
-            bytes: bytes(alloc, &mut words)?,
-            what: what_is_shown(word(&mut words)?)?,
-            addresses: numbers(alloc, &mut words)?,
-        })
-    }
-
-    /// What is shown of it.
-    pub fn show(&self, alloc: Global) -> Result<String> {
-        match self.what {
-            What::Program(offset) => in_storages(alloc, self.asked(Some(offset)), &self.bytes),
-            What::Lookups => self.show_lookups(alloc, &self.bytes),
-            What::Fronts => self.show_fronts(alloc),
-            What::Turned => self.show_turned(alloc),
-        }
-    }
-
-    // What is asked of the section.
-    fn asked(&self, entry: Option<u8>) -> Asked<'_> {
-        Asked {
-            which: self.which,
-            vendor: self.vendor,
-            entry,
-            addresses: &self.addresses,
-        }
-    }
-
-    // What a section has for each address.
-    fn show_lookups(&self, alloc: Global, bytes: &[u8]) -> Result<String> {
-        in_storage::<StoreOnHeap, StoreOnHeap>(alloc, self.asked(None), bytes)
-    }
-
-    // What each front of the section has for each address.
-    fn show_fronts(&self, alloc: Global) -> Result<String> {
-        let mut listing = Listing::new(alloc);
-        for size in 0..self.bytes.len() + 1 {
-            let lookups = self.show_lookups(alloc, &self.bytes[..size])?;
-            listing.add(&format!(in alloc; "{size} bytes")?, lookups)?;
-        }
-        Ok(listing.into_text())
-    }
-
-    // What the section has for each address with each byte set to each value.
-    fn show_turned(&self, alloc: Global) -> Result<String> {
-        let mut listing = Listing::new(alloc);
-        for place in 0..self.bytes.len() {
-            for value in VALUES {
-                let bytes = with_byte(alloc, &self.bytes, place, value)?;
-                let lookups = self.show_lookups(alloc, &bytes)?;
-                listing.add(&format!(in alloc; "byte {place} as {value}")?, lookups)?;
+    table: &mut UnwindTable<'_, '_, R, S>,
+    shown: &mut String,
+) -> Result<()> {
+    for _ in 0..MOST_ROWS {
+        match table.next_row() {
+            Ok(Some(row)) => {
+                let line = line_of(alloc, row)?;
+                write!(shown, "  {line}\n")?;
             }
+            Ok(None) => return Ok(()),
+            Err(error) => write!(shown, "  {error:?}\n")?,
         }
-        Ok(listing.into_text())
     }
+    Ok(())
+}
+
+/// Adds a line for each row of an entry, and for the error. An error in its CIE comes at once.
+pub fn show_rows<R: Reader, S: UnwindContextStorage<R::Offset>, Section: UnwindSection<R>>(
+    alloc: Global,
+    section: &Section,
+    bases: &BaseAddresses,
+    fde: &FrameDescriptionEntry<R>,
+    context: &mut UnwindContext<R::Offset, S>,
+    shown: &mut String,
+) -> Result<()> {
+    match fde.rows(section, bases, context) {
+        Ok(mut table) => show_table(alloc, &mut table, shown),
+        Err(error) => {
+            write!(shown, "  at once {error:?}\n")?;
+            Ok(())
+        }
+    }
+}
+
+// Adds a line for each address: the row for it, or the error.
+fn show_addresses<R: Reader, S: UnwindContextStorage<R::Offset>, Section: UnwindSection<R>>(
+    alloc: Global,
+    section: &Section,
+    bases: &BaseAddresses,
+    fde: &FrameDescriptionEntry<R>,
+    context: &mut UnwindContext<R::Offset, S>,
+    addresses: &[u64],
+    shown: &mut String,
+) -> Result<()> {
+    for address in addresses {
+        let row = fde.unwind_info_for_address(section, bases, context, *address);
+        let line = answer_line(alloc, row)?;
+        write!(shown, "  {address:x}: {line}\n")?;
+    }
+    Ok(())
+}
+
+/// The rows of the FDE at the offset that the first number says, one after the other and for the addresses that the others say, and once
+/// more by the context that was used for all of them.
+pub fn show_program<R: Reader, S: UnwindContextStorage<R::Offset>, Section: UnwindSection<R>>(
+    alloc: Global,
+    section: &Section,
+    bases: &BaseAddresses,
+    numbers: &[u64],
+    context: &mut UnwindContext<R::Offset, S>,
+) -> Result<String> {
+    let (offset, addresses) = numbers.split_first().context("an offset")?;
+    let offset = Section::Offset::from(R::Offset::from_u64(*offset)?);
+    let fde = fde_at(section, bases, offset)?;
+    let mut shown = String::new(alloc);
+    show_rows(alloc, section, bases, &fde, context, &mut shown)?;
+    let mut again = String::new(alloc);
+    show_addresses(alloc, section, bases, &fde, context, addresses, &mut shown)?;
+    show_rows(alloc, section, bases, &fde, context, &mut again)?;
+    if !shown.as_str().starts_with(again.as_str()) {
+        write!(shown, "otherwise by a context that served other programs\n")?;
+    }
+    Ok(shown)
 }

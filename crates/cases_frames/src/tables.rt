@@ -1,35 +1,35 @@
 //! Headers, the rows of their tables, and lookups in these.
 
-use crate::words::{bytes, number, numbers, word};
+use crate::case::Case;
 use anyhow::Result;
 use dwarf_call_frames::{BaseAddresses, EhFrameHdr, EhHdrTable, EhHdrTableIter, Pointer};
-use dwarf_constants::Error;
-use dwarf_readers::{EndianSlice, Reader, ReaderOffset, RunTimeEndian, TwoPieces};
+use dwarf_constants::{Error, Result as Answer};
+use dwarf_readers::{Counted, Reader, ReaderOffset, Steps, count_steps};
 use std::alloc::Global;
-use test_readers::Backward;
-
-/// A header, and what is asked of its table.
-#[derive(Drop)]
-pub struct Table {
-    endian: RunTimeEndian,
-    address_size: u8,
-    // Base addresses are known.
-    is_based: bool,
-    bytes: Vec<u8>,
-    // Addresses that are looked up.
-    addresses: Vec<u64>,
-    // Numbers of rows that are skipped.
-    behind: Vec<u64>,
-}
+use std::sync::ledger::Ledger;
 
 // How many rows are shown at most.
 const MOST_ROWS: usize = 9;
 
-// A byte order by its name.
-fn endian(name: &str) -> RunTimeEndian {
-    match name {
-        "big" => RunTimeEndian::Big,
-        _ => RunTimeEndian::Little,
+// A lookup of an address, whose steps are the starts that it reads.
+#[derive(Drop)]
+struct CountedLookup<'t, 'a, 'b, R: Reader> {
+    table: &'t EhHdrTable<'a, R>,
+    address: u64,
+    bases: &'b BaseAddresses,
+}
+
+impl<'t, 'a, 'b, R: Reader> Counted for CountedLookup<'t, 'a, 'b, R> {
+    ghost use Rattle.std.specs.Prelude.{◌≡◌};
+    ghost use Rattle.dwarf_call_frames.specs.HeaderTable.{header_table, starts_read};
+
+    type Answer = Answer<Pointer>;
+
+    ghost says = { λ c answer n. n ≡ starts_read R.Offset.limit c.address
+        (header_table c.bases.now.eh_frame_hdr c.table.now) };
+
+    fn run<L: Ledger>(self, steps: &mut Steps<L>) -> Answer<Pointer> {
+        self.table.lookup_counted(self.address, self.bases, steps)
     }
 }
 
@@ -79,15 +79,13 @@ fn show_behind<R: Reader>(
     shown: &mut String,
 ) -> Result<()> {
     let row = row_of(alloc, rows.nth(count))?;
-    write!(
-        shown,
-        "  behind {count}: {row}, {} rows left\n",
-        rows.size_hint().0
-    )?;
+    let left = rows.size_hint().0;
+    write!(shown, "  behind {count}: {row}, {left} rows left\n")?;
     Ok(())
 }
 
-// The pointer for an address with its offset from the start of `.eh_frame`, or the error of either.
+// The pointer for an address with its offset from the start of `.eh_frame`, or the error of either. A lookup that is counted has to find
+// the same.
 fn show_address<R: Reader>(
     alloc: Global,
     table: &EhHdrTable<'_, R>,
@@ -95,7 +93,16 @@ fn show_address<R: Reader>(
     address: u64,
     shown: &mut String,
 ) -> Result<()> {
-    match table.lookup(address, bases) {
+    let found = table.lookup(address, bases);
+    if count_steps(CountedLookup {
+        table,
+        address,
+        bases,
+    }) != found
+    {
+        write!(shown, "otherwise if it is counted\n")?;
+    }
+    match found {
         Ok(pointer) => {
             let text = pointer_of(alloc, pointer)?;
             write!(shown, "  {address:x}: {text}")?;
@@ -121,99 +128,43 @@ fn show_offset<R: Reader>(
     Ok(())
 }
 
-impl Table {
-    /// Reads words: the byte order, the size of an address, whether base addresses are known, the section, addresses,
-    /// and after the word `behind` numbers of rows to skip.
-    pub fn parse(alloc: Global, line: &str) -> Result<Self> {
-        let mut words = line.split_whitespace();
-        Ok(Table {
-            endian: endian(word(&mut words)?),
-            address_size: u8::try_from(number(&mut words)?)?,
-            is_based: word(&mut words)? == "known",
-            bytes: bytes(alloc, &mut words)?,
-            addresses: numbers(alloc, &mut words)?,
-            behind: numbers(alloc, &mut words)?,
-        })
+// What is asked of a table: its rows, those behind so many, and lookups of addresses.
+fn show_table<R: Reader>(
+    alloc: Global,
+    case: &Case<'_>,
+    table: &EhHdrTable<'_, R>,
+    bases: &BaseAddresses,
+    shown: &mut String,
+) -> Result<()> {
+    show_rows(alloc, table.iter(bases), shown)?;
+    for count in &case.behind {
+        show_behind(alloc, table.iter(bases), *count as usize, shown)?;
     }
-
-    /// What is shown of bytes in one piece. In two pieces, cut anywhere, it has to be the same. The
-    /// reader that stores bytes back to front has offsets of 32 bits: if that gives something else, it
-    /// is shown too.
-    pub fn show(&self, alloc: Global) -> Result<String> {
-        let mut shown = self.show_reader(alloc, EndianSlice::new(&self.bytes, self.endian))?;
-        let short = self.show_backward(alloc)?;
-        if let Some(cut) = self.odd_cut(alloc, shown.as_str())? {
-            write!(shown, "otherwise where it is cut at {cut}\n")?;
-        }
-        if short.as_str() != shown.as_str() {
-            write!(shown, "with offsets of 32 bits\n{short}")?;
-        }
-        Ok(shown)
+    for address in &case.numbers {
+        show_address(alloc, table, bases, *address, shown)?;
     }
+    Ok(())
+}
 
-    // What is shown of bytes that are stored back to front.
-    fn show_backward(&self, alloc: Global) -> Result<String> {
-        let mut stored = Vec::from_slice(alloc, &self.bytes)?;
-        stored.reverse();
-        u32::try_from(stored.len())?;
-        self.show_reader(alloc, Backward::new_at(&stored, self.endian, 0))
-    }
-
-    // The first offset at which bytes in two pieces that are cut there show something else, if there is one.
-    fn odd_cut(&self, alloc: Global, shown: &str) -> Result<Option<usize>> {
-        for cut in 0..self.bytes.len() + 1 {
-            let (before, after) = self.bytes.split_at(cut);
-            let pieces = TwoPieces::new(before, after, self.endian);
-            if self.show_reader(alloc, pieces)?.as_str() != shown {
-                return Ok(Some(cut));
+/// What is shown of a header. The numbers are addresses that are looked up, and those behind them numbers of rows that are skipped.
+pub fn show<R: Reader>(alloc: Global, case: &Case<'_>, reader: R) -> Result<String> {
+    let bases = match case.start {
+        Some(start) => BaseAddresses::default()
+            .set_eh_frame_hdr(start)
+            .set_text(0x1000),
+        None => BaseAddresses::default(),
+    };
+    let mut shown = String::new(alloc);
+    match EhFrameHdr::from(reader).parse(&bases, case.address_size) {
+        Ok(header) => {
+            let start = pointer_of(alloc, header.eh_frame_ptr())?;
+            write!(shown, "start {start}\n")?;
+            match header.table() {
+                Some(table) => show_table(alloc, case, &table, &bases, &mut shown)?,
+                None => write!(shown, "no table\n")?,
             }
         }
-        Ok(None)
+        Err(error) => write!(shown, "{error:?}\n")?,
     }
-
-    // The base addresses.
-    fn bases(&self) -> BaseAddresses {
-        let bases = BaseAddresses::default();
-        if self.is_based {
-            bases.set_eh_frame_hdr(0x300).set_text(0x1000)
-        } else {
-            bases
-        }
-    }
-
-    // What is asked of a table.
-    fn show_table<R: Reader>(
-        &self,
-        alloc: Global,
-        table: &EhHdrTable<'_, R>,
-        bases: &BaseAddresses,
-        shown: &mut String,
-    ) -> Result<()> {
-        show_rows(alloc, table.iter(bases), shown)?;
-        for count in &self.behind {
-            show_behind(alloc, table.iter(bases), *count as usize, shown)?;
-        }
-        for address in &self.addresses {
-            show_address(alloc, table, bases, *address, shown)?;
-        }
-        Ok(())
-    }
-
-    // What is shown of the header.
-    fn show_reader<R: Reader>(&self, alloc: Global, reader: R) -> Result<String> {
-        let bases = self.bases();
-        let mut shown = String::new(alloc);
-        match EhFrameHdr::from(reader).parse(&bases, self.address_size) {
-            Ok(header) => {
-                let start = pointer_of(alloc, header.eh_frame_ptr())?;
-                write!(shown, "start {start}\n")?;
-                match header.table() {
-                    Some(table) => self.show_table(alloc, &table, &bases, &mut shown)?,
-                    None => write!(shown, "no table\n")?,
-                }
-            }
-            Err(error) => write!(shown, "{error:?}\n")?,
-        }
-        Ok(shown)
-    }
+    Ok(shown)
 }

@@ -7,6 +7,7 @@ ghost use Rattle.dwarf_frame_rows.specs.Effects.{TakesNoMemory, limits_of};
 use arrayvec::ArrayVec;
 use dwarf_frame_rows::{RegisterRule, RuledRegister, UnwindContextStorage, UnwindTableRow};
 use dwarf_readers::ReaderOffset;
+use dwarf_storage::ReservedVec;
 
 /// Room for one rule, and for one row.
 pub struct One;
@@ -40,6 +41,28 @@ impl<T: ReaderOffset> UnwindContextStorage<T> for Small {
     ghost limited = { refl };
 
     ghost never_allocates = { TakesNoMemory true (limits_of (Some 3) (Some 2)) };
+
+    ghost allocates_never = { (λ t. t, λ t. t) };
+
+    ghost room = { lit≤ tt };
+}
+
+/// 192 rules on the heap, for which memory is taken when a row is made, and four such rows.
+pub struct Reserved;
+
+impl<T: ReaderOffset> UnwindContextStorage<T> for Reserved {
+    type Rules = ReservedVec<RuledRegister<RegisterRule<T>>, 192>;
+
+    type Stack = ReservedVec<
+        UnwindTableRow<T, ReservedVec<RuledRegister<RegisterRule<T>>, 192>>,
+        4,
+    >;
+
+    ghost limits = { limits_of (Some 192) (Some 4) };
+
+    ghost limited = { refl };
+
+    ghost never_allocates = { TakesNoMemory false (limits_of (Some 192) (Some 4)) };
 
     ghost allocates_never = { (λ t. t, λ t. t) };
 

@@ -1,5 +1,0 @@
-//! Encoded pointers, and contexts and their rows.
-mod contexts;
-mod encodings;
-mod pointers;
-mod rules;
