@@ -252,6 +252,8 @@ def gate_sums():
     commits = len({row.get("commit", record.commit) for row in record.crates.values()})
     text = f"{lines:,} lines, of which {record.counts['lines of the budget']:,} stood when the budget was set."
     text += f" The last run of all crates took {clock} minutes by the clock on {processors} processors."
+    if "on two processors" in record.counts:
+        text += f" By the rows below it takes {record.counts['on two processors']} on two."
     text += f" Rows were measured at {commits} commits." if commits > 1 else ""
     if "pace" in record.counts:
         text += f" A minute is one of the machine of the budget: that of the last run took {record.counts['pace']} times as long over the same crates."
