@@ -1,5 +1,5 @@
 //! Caches of any size.
-use crate::modules::{Data, X86_64, module_with};
+use crate::modules::{Data, X86_64, module_with, shared_section};
 use crate::steps::{BY_WORD, FIRST, try_step, unwinder_of};
 use framehop::aarch64::CacheAarch64;
 use framehop::x86_64::{CacheX86_64, SlotCount, UnwindRegsX86_64};
@@ -16,7 +16,8 @@ fn step_twice<A: ModuleUnwinding<UnwindRegs = UnwindRegsX86_64, UnwindData = Dat
     alloc: Global,
     cache: &mut Cache<A::UnwindRule, A::UnwindContext>,
 ) {
-    let module = module_with(alloc, WORKED.as_slice()).expect(rt, "memory");
+    let section = shared_section(alloc, &WORKED).expect(rt, "memory");
+    let module = module_with(alloc, section).expect(rt, "memory");
     let unwinder = unwinder_of::<A>(rt, alloc, module);
     for _ in 0..2 {
         assert!(rt; try_step(&unwinder, cache, FIRST) == (Ok(Some(0x100300)), BY_WORD));

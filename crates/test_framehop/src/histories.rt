@@ -10,7 +10,7 @@ use framehop::aarch64::{self, SessionAarch64, UnwindRegsAarch64};
 use framehop::histories::{Answer, Command};
 use framehop::x86_64::{self, SessionX86_64, SlotCount, UnwindRegsX86_64};
 use framehop::{
-    AllocationPolicy, DwarfUnwindContext, FrameAddress, MayAllocateDuringUnwind,
+    AllocationPolicy, DwarfUnwindContext, Error, FrameAddress, MayAllocateDuringUnwind,
     MustNotAllocateDuringUnwind, Session,
 };
 use framehop_unwinder::Module;
@@ -47,9 +47,20 @@ fn commands_of<D: Drop, C: Drop, R: Copy, F: FnMut(u64) -> Result<u64, ()> + Dro
     Ok(commands)
 }
 
-/// Whether three commands are done, and the step finds its caller.
-fn are_wanted<R: Copy>(answers: &[Answer<R>]) -> bool {
+// Whether a command was refused memory.
+fn is_refused<R: Copy>(answer: &Answer<R>) -> bool {
     matches!(
+        answer,
+        Answer::OutOfMemory | Answer::Stepped(Err(Error::OutOfMemory), _)
+    )
+}
+
+/// Whether three commands are done, and the step finds its caller. Fails if one of them was refused memory.
+fn are_wanted<R: Copy>(answers: &[Answer<R>]) -> Result<bool, AllocError> {
+    if answers.iter().any(|answer| is_refused(answer)) {
+        return Err(AllocError);
+    }
+    Ok(matches!(
         answers,
         [
             Answer::Added,
@@ -57,7 +68,7 @@ fn are_wanted<R: Copy>(answers: &[Answer<R>]) -> bool {
             Answer::Added,
             Answer::Stepped(Ok(Some(0x100300)), _)
         ]
-    )
+    ))
 }
 
 /// Whether the commands are answered as they should be on x86_64 under this policy.
@@ -67,7 +78,7 @@ fn holds_on_x86_64<P: AllocationPolicy>(alloc: Global) -> Result<bool, AllocErro
     let regs = UnwindRegsX86_64::new(0x101000, 0x10, 0x20);
     let mut commands = commands_of(alloc, module, context, regs, word_at)?;
     let mut session: SessionX86_64<&'static [u8], P> = Session::empty(alloc);
-    Ok(are_wanted(&x86_64::perform(alloc, &mut session, &mut commands)?))
+    are_wanted(&x86_64::perform(alloc, &mut session, &mut commands)?)
 }
 
 /// Whether the commands are answered as they should be on aarch64 under this policy.
@@ -77,7 +88,7 @@ fn holds_on_aarch64<P: AllocationPolicy>(alloc: Global) -> Result<bool, AllocErr
     let regs = UnwindRegsAarch64::new(0x100300, 0x10, 0x20);
     let mut commands = commands_of(alloc, module, context, regs, word_at)?;
     let mut session: SessionAarch64<&'static [u8], P> = Session::empty(alloc);
-    Ok(are_wanted(&aarch64::perform(alloc, &mut session, &mut commands)?))
+    are_wanted(&aarch64::perform(alloc, &mut session, &mut commands)?)
 }
 
 #[test]

@@ -1,33 +1,15 @@
 //! What sessions free once processes are let go: the holders of a section are counted.
 
-use crate::modules::module_with;
+use crate::checks::{Check, check_on_x86_64};
+use crate::modules::{Data, Shared, module_with};
 use crate::sessions::step;
 use crate::steps::{BY_WORD, FIRST, Stepped};
-use framehop::x86_64::{ArchX86_64, UnwindRegsX86_64};
-use framehop::{
-    BySections, CacheId, MayAllocateDuringUnwind, ModuleUnwindData, ModuleUnwinding, SectionBytes,
-    Session, UnwinderId,
-};
+use framehop::x86_64::UnwindRegsX86_64;
+use framehop::{CacheId, ModuleUnwinding, Session, UnwinderId};
 use std::alloc::{AllocError, Global};
 use std::process::Abort;
 use std::rc::Rc;
 use test_readers::WORKED;
-
-/// A section, which those that hold it share.
-#[derive(Drop)]
-struct Shared {
-    bytes: Rc<Vec<u8>>,
-}
-
-impl SectionBytes for Shared {
-    ghost content = { λ section. section.bytes.value.items };
-
-    fn bytes(&self) -> &[u8] {
-        self.bytes.as_slice()
-    }
-}
-
-type Processes = BySections<ArchX86_64, Shared, MayAllocateDuringUnwind>;
 
 // A section.
 fn worked_section(alloc: Global) -> Result<Rc<Vec<u8>>, AllocError> {
@@ -51,7 +33,7 @@ enum Turn {
 }
 
 // Takes a turn with a process, for which a module with the section may be needed.
-fn take<A: ModuleUnwinding<UnwindData = ModuleUnwindData<Shared>>>(
+fn take<A: ModuleUnwinding<UnwindData = Data>>(
     rt: &impl Abort,
     alloc: Global,
     session: &mut Session<A>,
@@ -88,10 +70,11 @@ static TURNS: [(Turn, usize, usize, bool, bool); 8] = [
 /// What a step by the section's row gives.
 const BY_ROW: Option<Stepped> = Some((Ok(Some(0x100300)), BY_WORD));
 
-// Takes these turns.
-fn check_turns<
-    A: ModuleUnwinding<UnwindRegs = UnwindRegsX86_64, UnwindData = ModuleUnwindData<Shared>>,
->(rt: &impl Abort, alloc: Global) {
+/// Takes these turns.
+pub fn check_turns<A: ModuleUnwinding<UnwindRegs = UnwindRegsX86_64, UnwindData = Data>>(
+    rt: &impl Abort,
+    alloc: Global,
+) {
     let section = worked_section(alloc).expect(rt, "memory");
     let mut session = new_session::<A>(rt, alloc);
     for (turn, process, holders, first, second) in &TURNS {
@@ -105,13 +88,14 @@ fn check_turns<
 /// A module is held by the processes that have it, and freed with the last of them.
 #[test]
 fn modules_are_freed(rt: HostRuntime) {
-    check_turns::<Processes>(&rt, rt.alloc());
+    check_on_x86_64(&rt, rt.alloc(), Check::Turns);
 }
 
-// Makes a thousand processes, and lets each go after the three that follow it are made.
-fn check_thousand<
-    A: ModuleUnwinding<UnwindRegs = UnwindRegsX86_64, UnwindData = ModuleUnwindData<Shared>>,
->(rt: &impl Abort, alloc: Global) {
+/// Makes a thousand processes, and lets each go after the three that follow it are made.
+pub fn check_thousand<A: ModuleUnwinding<UnwindRegs = UnwindRegsX86_64, UnwindData = Data>>(
+    rt: &impl Abort,
+    alloc: Global,
+) {
     let section = worked_section(alloc).expect(rt, "memory");
     let mut session = new_session::<A>(rt, alloc);
     for number in 0..1000usize {
@@ -130,5 +114,5 @@ fn check_thousand<
 /// A thousand processes come and go, up to four at a time. `scripts/memory-level` counts the memory that they take.
 #[test]
 fn processes_come_and_go(rt: HostRuntime) {
-    check_thousand::<Processes>(&rt, rt.alloc());
+    check_on_x86_64(&rt, rt.alloc(), Check::Thousand);
 }

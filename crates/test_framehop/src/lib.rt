@@ -6,6 +6,8 @@
 mod caches;
 #[cfg(test)]
 mod cfi_index;
+#[cfg(test)]
+mod checks;
 mod headers;
 #[cfg(test)]
 mod histories;

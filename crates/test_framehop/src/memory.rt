@@ -3,15 +3,16 @@
 //! By themselves these tests are refused nothing. `scripts/refuse-allocations --tests test_framehop` runs each of them with each of its
 //! requests refused, alone and with all after it: what is refused is asked for again, and what takes no memory answers as it does
 //! with memory.
-use crate::modules::{BOTH, Data, MODULES, X86_64, module_at, module_with};
+use crate::checks::{Check, check_on_x86_64};
+use crate::modules::{BOTH, Data, MODULES, X86_64, module_at, module_with, shared_section};
 use crate::sessions::{next_frame, session_of, step};
 use crate::steps::{
     BY_FRAME, BY_WORD, FIRST, Registers, Stepped, cache_of, frame_of, try_step, unwinder_of,
 };
 use framehop::x86_64::UnwindRegsX86_64;
 use framehop::{
-    Cache, CacheStats, Error, Generations, LoadError, MayAllocateDuringUnwind, ModuleUnwinding,
-    MustNotAllocateDuringUnwind, Session, StackWalk, Unwinder, UnwinderId, UnwinderInternal,
+    Cache, CacheStats, Error, Generations, LoadError, ModuleUnwinding, MustNotAllocateDuringUnwind,
+    Session, StackWalk, Unwinder, UnwinderId, UnwinderInternal,
 };
 use framehop_unwinder::Module;
 use std::alloc::{AllocError, Global};
@@ -115,7 +116,7 @@ fn check_walks<A: ModuleUnwinding<UnwindRegs = UnwindRegsX86_64>>(
 }
 
 /// Steps and walks where all is loaded, and memory may have ended since then: one more module is asked for, which is loaded or not.
-fn check_without_memory<A: ModuleUnwinding<UnwindRegs = UnwindRegsX86_64, UnwindData = Data>>(
+pub fn check_without_memory<A: ModuleUnwinding<UnwindRegs = UnwindRegsX86_64, UnwindData = Data>>(
     rt: &impl Abort,
     alloc: Global,
     with_expressions: bool,
@@ -137,7 +138,7 @@ fn nothing_is_taken_that_must_not_be(rt: HostRuntime) {
 
 #[test]
 fn nothing_is_taken_without_an_expression(rt: HostRuntime) {
-    check_without_memory::<X86_64<MayAllocateDuringUnwind>>(&rt, rt.alloc(), false);
+    check_on_x86_64(&rt, rt.alloc(), Check::StepsWithoutExpressions);
 }
 
 /// Loads a module, which a step uses then. If the module is given back, nothing has changed, and it is loaded again.
@@ -161,7 +162,7 @@ fn check_load<A: ModuleUnwinding<UnwindRegs = UnwindRegsX86_64>>(
 }
 
 /// Loads modules with one row, as often as a list grows twice.
-fn check_loads<A: ModuleUnwinding<UnwindRegs = UnwindRegsX86_64, UnwindData = Data>>(
+pub fn check_loads<A: ModuleUnwinding<UnwindRegs = UnwindRegsX86_64, UnwindData = Data>>(
     rt: &impl Abort,
     alloc: Global,
 ) {
@@ -170,7 +171,8 @@ fn check_loads<A: ModuleUnwinding<UnwindRegs = UnwindRegsX86_64, UnwindData = Da
     let mut cache = cache_of::<A>(rt, alloc);
     let mut said = (Ok(Some(0x100200)), BY_FRAME);
     for _ in 0..6 {
-        let module = module_with(alloc, WORKED.as_slice()).expect(rt, "memory");
+        let section = shared_section(alloc, &WORKED).expect(rt, "memory");
+        let module = module_with(alloc, section).expect(rt, "memory");
         check_load(
             rt,
             &mut unwinder,
@@ -186,7 +188,7 @@ fn check_loads<A: ModuleUnwinding<UnwindRegs = UnwindRegsX86_64, UnwindData = Da
 /// A load whose list can't grow gives the module back, takes no number and leaves the unwinder: the module is loaded again.
 #[test]
 fn a_load_is_made_again(rt: HostRuntime) {
-    check_loads::<X86_64<MayAllocateDuringUnwind>>(&rt, rt.alloc());
+    check_on_x86_64(&rt, rt.alloc(), Check::Loads);
 }
 
 /// A frame whose CFA is an expression.
@@ -253,11 +255,12 @@ fn check_moves<U: Unwinder<UnwindRegs = UnwindRegsX86_64>>(
 }
 
 /// Wants a step by an expression, and the moves from there.
-fn check_by_expression<A: ModuleUnwinding<UnwindRegs = UnwindRegsX86_64, UnwindData = Data>>(
+pub fn check_by_expression<A: ModuleUnwinding<UnwindRegs = UnwindRegsX86_64, UnwindData = Data>>(
     rt: &impl Abort,
     alloc: Global,
 ) {
-    let module = module_with(alloc, BOTH.as_slice()).expect(rt, "memory");
+    let section = shared_section(alloc, &BOTH).expect(rt, "memory");
+    let module = module_with(alloc, section).expect(rt, "memory");
     let unwinder = unwinder_of::<A>(rt, alloc, module);
     let mut cache = cache_of::<A>(rt, alloc);
     check_expression(rt, &unwinder, &mut cache);
@@ -266,5 +269,5 @@ fn check_by_expression<A: ModuleUnwinding<UnwindRegs = UnwindRegsX86_64, UnwindD
 
 #[test]
 fn steps_and_moves_by_an_expression_are_made_again(rt: HostRuntime) {
-    check_by_expression::<X86_64<MayAllocateDuringUnwind>>(&rt, rt.alloc());
+    check_on_x86_64(&rt, rt.alloc(), Check::StepsByAnExpression);
 }

@@ -7,13 +7,34 @@ use framehop::{
     load_module,
 };
 use std::alloc::{AllocError, Global};
+use std::rc::Rc;
 use test_readers::WORKED;
 
-/// What modules are unwound by whose sections stay.
-pub type Data = ModuleUnwindData<&'static [u8]>;
+/// A section, which those that hold it share.
+#[derive(Drop)]
+pub struct Shared {
+    pub bytes: Rc<Vec<u8>>,
+}
+
+impl SectionBytes for Shared {
+    ghost content = { λ section. section.bytes.value.items };
+
+    fn bytes(&self) -> &[u8] {
+        self.bytes.as_slice()
+    }
+}
+
+/// What modules are unwound by that share their sections.
+pub type Data = ModuleUnwindData<Shared>;
 
 /// x86_64, with such modules.
-pub type X86_64<P> = BySections<ArchX86_64, &'static [u8], P>;
+pub type X86_64<P> = BySections<ArchX86_64, Shared, P>;
+
+/// A section that nothing else holds.
+pub fn shared_section(alloc: Global, section: &[u8]) -> Result<Shared, AllocError> {
+    let bytes = Rc::new(alloc, section.to_vec(alloc)?)?;
+    Ok(Shared { bytes })
+}
 
 /// Where modules start, each of 0x10000 addresses, what they are unwound by, and what their indexes leave out: by an index, by a header,
 /// by `.debug_frame`, by compact unwind info and by `.pdata`, with a rule and code by code; one without sections; two by an index with a
@@ -103,31 +124,42 @@ pub fn module_with<D: SectionBytes + Drop>(
     module_of(alloc, sections, 0x100000, None)
 }
 
-/// The sections of the module that starts there, if it isn't of a PE file.
-fn sections_at(start: u64) -> ExplicitModuleSectionInfo<&'static [u8]> {
-    let mut sections = ExplicitModuleSectionInfo::default();
+/// The section by which the module is unwound that starts there, if it isn't of a PE file.
+fn section_at(start: u64) -> &'static [u8] {
     match start {
-        0x100000 | 0xa00000 | 0xb00000 => sections.eh_frame = Some(BOTH.as_slice()),
+        0x100000 | 0xa00000 | 0xb00000 => &BOTH,
+        0x300000 => &NARROW,
+        0x400000 => &COMPACT,
+        0xe00000 => &WORKED[..30],
+        _ => &WORKED,
+    }
+}
+
+/// The sections of this module.
+fn sections_at(alloc: Global, start: u64) -> Result<ExplicitModuleSectionInfo<Shared>, AllocError> {
+    let mut sections = ExplicitModuleSectionInfo::default();
+    let section = Some(shared_section(alloc, section_at(start))?);
+    match start {
+        0x300000 => sections.debug_frame = section,
+        0x400000 => sections.unwind_info = section,
+        0x700000 | 0x800000 => {}
+        _ => sections.eh_frame = section,
+    }
+    match start {
         0x200000 => {
-            sections.eh_frame = Some(WORKED.as_slice());
             sections.eh_frame_svma = Some(0x200..0x238);
-            sections.eh_frame_hdr = Some(HEADER.as_slice());
+            sections.eh_frame_hdr = Some(shared_section(alloc, &HEADER)?);
             sections.eh_frame_hdr_svma = Some(0x300..0x314);
         }
-        0x300000 => sections.debug_frame = Some(NARROW.as_slice()),
-        0x400000 => sections.unwind_info = Some(COMPACT.as_slice()),
-        0xc00000 | 0xd00000 => {
-            sections.eh_frame = Some(WORKED.as_slice());
-            sections.base_svma = if start == 0xc00000 { 0x1000 } else { 0x1001 };
-        }
-        0xe00000 => sections.eh_frame = WORKED.get(..30),
+        0xc00000 => sections.base_svma = 0x1000,
+        0xd00000 => sections.base_svma = 0x1001,
         _ => {}
     }
-    sections
+    Ok(sections)
 }
 
 /// The module that starts there.
-pub fn module_at(alloc: Global, start: u64) -> Result<Module<&'static [u8]>, AllocError> {
+pub fn module_at(alloc: Global, start: u64) -> Result<Module<Shared>, AllocError> {
     let tables = match start {
         0xa00000 => Some(ArchX86_64::table_arch()),
         0xb00000 => Some(ArchAarch64::table_arch()),
@@ -136,12 +168,12 @@ pub fn module_at(alloc: Global, start: u64) -> Result<Module<&'static [u8]>, All
     let xdata = match start {
         0x500000 => INFO.as_slice(),
         0x600000 => UNDONE.as_slice(),
-        _ => return module_of(alloc, sections_at(start), start, tables),
+        _ => return module_of(alloc, sections_at(alloc, start)?, start, tables),
     };
     let sections = PeModuleSectionInfo {
-        pdata: Some(ROW.as_slice()),
+        pdata: Some(shared_section(alloc, &ROW)?),
         xdata_svma: Some(0x2000..0x3000),
-        xdata: Some(xdata),
+        xdata: Some(shared_section(alloc, xdata)?),
         ..Default::default()
     };
     module_of(alloc, sections, start, tables)

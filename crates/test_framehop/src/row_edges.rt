@@ -124,12 +124,22 @@ fn has_rule((register, offset, fp, lr): Row) -> bool {
     }
 }
 
+/// Two equal steps by a row, whose CFA may be an expression.
+fn step_by_row(
+    rt: &impl Abort,
+    alloc: Global,
+    is_expression: bool,
+    row: Row,
+    is_first: bool,
+) -> Stepped {
+    let section = with_row(alloc, is_expression, row).expect(rt, "memory");
+    step_by::<Aarch64>(rt, alloc, section, is_first)
+}
+
 /// Wants that both forms of a row give one caller, and that only the form that a rule says is kept.
 fn check(rt: &impl Abort, alloc: Global, row: Row, is_first: bool) {
-    let section = with_row(alloc, false, row).expect(rt, "memory");
-    let (to, regs, is_kept) = step_by::<Aarch64>(rt, alloc, section, is_first);
-    let section = with_row(alloc, true, row).expect(rt, "memory");
-    let direct = step_by::<Aarch64>(rt, alloc, section, is_first);
+    let (to, regs, is_kept) = step_by_row(rt, alloc, false, row, is_first);
+    let direct = step_by_row(rt, alloc, true, row, is_first);
     let is_wanted = to.is_some() && direct == (to, regs, false) && is_kept == has_rule(row);
     assert!(rt; is_wanted, "{row:?}");
 }

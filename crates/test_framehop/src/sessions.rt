@@ -1,10 +1,10 @@
 //! Sessions of one unwinder and one cache, by calls with plain results.
-use crate::modules::{Data, X86_64, module_with};
+use crate::checks::{Check, check_on_x86_64};
+use crate::modules::{Data, module_with, shared_section};
 use crate::steps::{Registers, Stepped, frame_of};
 use framehop::x86_64::UnwindRegsX86_64;
 use framehop::{
-    CacheId, Error, FrameAddress, Generations, MayAllocateDuringUnwind, ModuleUnwinding, Session,
-    StackWalk, UnwinderId,
+    CacheId, Error, FrameAddress, Generations, ModuleUnwinding, Session, StackWalk, UnwinderId,
 };
 use std::alloc::Global;
 use std::process::Abort;
@@ -73,12 +73,13 @@ static MOVES: [(Result<Option<u64>, Error>, u64); 3] = [
     (Ok(Some(0x100300)), 0x40),
 ];
 
-// Wants these of a walk in a module with that row.
-fn check_moves<A: ModuleUnwinding<UnwindRegs = UnwindRegsX86_64, UnwindData = Data>>(
+/// Wants these of a walk in a module with that row.
+pub fn check_moves<A: ModuleUnwinding<UnwindRegs = UnwindRegsX86_64, UnwindData = Data>>(
     rt: &impl Abort,
     alloc: Global,
 ) {
-    let module = module_with(alloc, THREE_WORDS_BELOW.as_slice()).expect(rt, "memory");
+    let section = shared_section(alloc, &THREE_WORDS_BELOW).expect(rt, "memory");
+    let module = module_with(alloc, section).expect(rt, "memory");
     let mut session = session_of::<A>(rt, alloc);
     let is_loaded = matches!(session.load(UnwinderId::numbered(0), module), Ok(Ok(())));
     assert!(rt; is_loaded, "OutOfMemory");
@@ -97,5 +98,5 @@ fn check_moves<A: ModuleUnwinding<UnwindRegs = UnwindRegsX86_64, UnwindData = Da
 /// finds a caller that isn't null.
 #[test]
 fn walks_have_the_callers_registers_after_a_return_address_of_0(rt: HostRuntime) {
-    check_moves::<X86_64<MayAllocateDuringUnwind>>(&rt, rt.alloc());
+    check_on_x86_64(&rt, rt.alloc(), Check::MovesBehindZero);
 }
