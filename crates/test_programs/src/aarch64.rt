@@ -1,13 +1,10 @@
 //! Signed return addresses on aarch64.
 
 use crate::cores::core_aarch64;
+use crate::stacks::expect_stacks;
 use backtrace_json::TextForm;
 use backtrace_text::FunctionNames;
-use backtrace_walks::{BacktraceOptions, FrameOptions, write_stacks};
-use core_files::CoreFile;
-use json_program::Streamed;
-use std::alloc::Global;
-use std::process::Abort;
+use backtrace_walks::{BacktraceOptions, FrameOptions};
 use std::test::Fail;
 
 const STRIPPED: &str = "Thread 7:
@@ -24,28 +21,24 @@ const SIGNED: &str = "Thread 7:
     sp 0x0000000000007030 x29 0x0000000000007040 x30 0x002b000000101300
 ";
 
-// The text of the core whose masks are in a note of this type is this one.
-fn expect(rt: &impl Abort, alloc: Global, masks: u32, expected: &str) -> Result<(), Fail> {
-    let bytes = core_aarch64(alloc, masks)?;
-    let core = CoreFile::parse(alloc, &bytes)?;
-    let options = BacktraceOptions {
-        thread: None,
-        limit: 16,
-        frames: FrameOptions {
-            registers: true,
-            names: FunctionNames::Demangled,
-        },
-        form: TextForm::Lines,
-    };
-    let mut sink = Streamed::new(Vec::new(alloc));
-    write_stacks(alloc, &core, &[], &options, &mut sink)?;
-    assert!(rt; sink.into_inner().as_slice() == expected.as_bytes());
-    Ok(())
-}
+const OPTIONS: BacktraceOptions = BacktraceOptions {
+    thread: None,
+    limit: 16,
+    frames: FrameOptions {
+        registers: true,
+        names: FunctionNames::Demangled,
+    },
+    form: TextForm::Lines,
+};
+
+/// The types of the notes with the masks, NT_ARM_PAC_MASK and one that isn't read, and the text.
+static MASKS: [(u32, &str); 2] = [(0x406, STRIPPED), (0x4ff, SIGNED)];
 
 #[test]
 fn by_the_masks_of_the_core(rt: HostRuntime) -> Result<(), Fail> {
-    // NT_ARM_PAC_MASK, and a note of a type that isn't read
-    expect(&rt, rt.alloc(), 0x406, STRIPPED)?;
-    expect(&rt, rt.alloc(), 0x4ff, SIGNED)
+    for &(masks, text) in &MASKS {
+        let bytes = core_aarch64(rt.alloc(), masks)?;
+        expect_stacks(&rt, rt.alloc(), &bytes, None, &OPTIONS, text)?;
+    }
+    Ok(())
 }

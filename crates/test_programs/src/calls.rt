@@ -2,12 +2,10 @@
 
 use crate::cores::{Place, core_with, stacks};
 use crate::program::program;
-use backtrace_files::GivenFile;
+use crate::stacks::expect_stacks;
 use backtrace_json::TextForm;
 use backtrace_text::FunctionNames;
-use backtrace_walks::{BacktraceOptions, FrameOptions, write_stacks};
-use core_files::CoreFile;
-use json_program::Streamed;
+use backtrace_walks::{BacktraceOptions, FrameOptions};
 use std::alloc::Global;
 use std::process::Abort;
 use std::test::Fail;
@@ -83,16 +81,8 @@ fn expect(rt: &impl Abort, alloc: Global, case: &Case) -> Result<(), Fail> {
     words[96] = 0x10_1700;
     words[*number % 100] = *word;
     let bytes = core_with(alloc, *first, *second, &words)?;
-    let core = CoreFile::parse(alloc, &bytes)?;
     let file = program(alloc)?;
-    let mut sink = Streamed::new(Vec::new(alloc));
-    let given = GivenFile {
-        bytes: Some(file.as_slice()),
-        debug: None,
-    };
-    write_stacks(alloc, &core, &[given], &OPTIONS, &mut sink)?;
-    assert!(rt; sink.into_inner().as_slice() == text.as_bytes(), "{text}");
-    Ok(())
+    expect_stacks(rt, alloc, &bytes, Some(file.as_slice()), &OPTIONS, text)
 }
 
 #[test]

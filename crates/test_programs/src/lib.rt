@@ -29,6 +29,8 @@ mod sections;
 #[cfg(test)]
 mod small_core;
 #[cfg(test)]
+mod stacks;
+#[cfg(test)]
 mod streams;
 #[cfg(test)]
 mod text;

@@ -2,12 +2,10 @@
 
 use crate::cores::core_x86_64;
 use crate::program::program;
-use backtrace_files::GivenFile;
+use crate::stacks::expect_stacks;
 use backtrace_json::TextForm;
 use backtrace_text::FunctionNames;
-use backtrace_walks::{BacktraceOptions, FrameOptions, write_stacks};
-use core_files::CoreFile;
-use json_program::Streamed;
+use backtrace_walks::{BacktraceOptions, FrameOptions};
 use std::alloc::Global;
 use std::process::Abort;
 use std::test::Fail;
@@ -80,12 +78,7 @@ fn expect(
     expected: &str,
 ) -> Result<(), Fail> {
     let core = core_x86_64(alloc)?;
-    let core = CoreFile::parse(alloc, &core)?;
-    let mut sink = Streamed::new(Vec::new(alloc));
-    let given = GivenFile { bytes, debug: None };
-    write_stacks(alloc, &core, &[given], options, &mut sink)?;
-    assert!(rt; sink.into_inner().as_slice() == expected.as_bytes());
-    Ok(())
+    expect_stacks(rt, alloc, &core, bytes, options, expected)
 }
 
 // One thread alone.
