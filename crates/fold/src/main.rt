@@ -17,7 +17,7 @@ use found_files::{FoundFiles, folders_of};
 use framehop_rules::aarch64::ArchAarch64;
 use framehop_rules::x86_64::ArchX86_64;
 use perf_files::Architecture;
-use recording::Recording;
+use recording::{ReadError, Recording};
 use samples::print_folded;
 use source::Source;
 use std::env;
@@ -41,12 +41,13 @@ fn machine_of(recording: &Recording) -> Architecture {
 fn run(rt: &HostRuntime, request: &FoldRequest<'_>) -> Result<ExitCode> {
     let path = request.recording;
     let mut source = Source::open(rt, path).context(format_args!("{path}"))?;
-    let mut recording = match Recording::read(rt.alloc(), &mut source)? {
+    let mut recording = match Recording::read(rt.alloc(), &mut source) {
         Ok(recording) => recording,
-        Err(refusal) => {
+        Err(ReadError::Refused(refusal)) => {
             eprintln!(rt; "fold: {path}: {refusal}")?;
             return Ok(ExitCode::from(FAULTY));
         }
+        Err(ReadError::Failed(error)) => return Err(error.into()),
     };
     let options = &request.options;
     let machine = machine_of(&recording);

@@ -5,13 +5,13 @@ ghost use Rattle.std.specs.List.Sorted.{IsNonDecreasingBy};
 
 use crate::event_names::event_names;
 use crate::source::Source;
-use anyhow::Result;
 use perf_files::{
     Architecture, AttributeEntry, Attributes, Event, EventError, FeatureError, FieldError,
     FileBuildId, FileHeader, HeaderError, PerfHeader, Record, RecordError, RecordKind, RecordPlace,
     Section, Words, architecture_in, event_of, read_header, record_at, sort_by_time, time_of,
 };
-use std::alloc::{AllocError, Global};
+use std::alloc::{AllocError, AllocFailed, Global};
+use std::io;
 use thiserror::Error;
 
 /// The build id of a file.
@@ -48,6 +48,42 @@ pub(crate) enum Refusal {
         /// Where the first one begins.
         offset: u64,
     },
+}
+
+/// Why a recording isn't read.
+#[derive(Debug, Drop, Error)]
+pub(crate) enum ReadError {
+    /// It is refused.
+    #[error("{0}")]
+    Refused(Refusal),
+
+    /// Its bytes can't be read, or memory is refused.
+    #[error("{0}")]
+    Failed(io::Error),
+}
+
+impl From<Refusal> for ReadError {
+    fn from(refusal: Refusal) -> Self {
+        ReadError::Refused(refusal)
+    }
+}
+
+impl From<io::Error> for ReadError {
+    fn from(error: io::Error) -> Self {
+        ReadError::Failed(error)
+    }
+}
+
+impl From<AllocError> for ReadError {
+    fn from(error: AllocError) -> Self {
+        ReadError::Failed(error.into())
+    }
+}
+
+impl<T: Drop> From<AllocFailed<T>> for ReadError {
+    fn from(_error: AllocFailed<T>) -> Self {
+        ReadError::Failed(AllocError.into())
+    }
 }
 
 /// What a recording says beside its samples.
@@ -139,19 +175,16 @@ impl Recording {
         source: &mut Source,
         header: &FileHeader,
         offset: u64,
-    ) -> Result<Result<(), Refusal>> {
+    ) -> Result<(), ReadError> {
         let bytes = source.bytes(offset, header.attribute_size, 0)?;
-        let entry = match AttributeEntry::parse(bytes) {
-            Ok(entry) => entry,
-            Err(error) => return Ok(Err(Refusal::Attributes(error))),
-        };
+        let entry = AttributeEntry::parse(bytes).map_err(Refusal::Attributes)?;
         let ids = source.bytes(entry.ids.offset, entry.ids.size, 0)?;
         let ids = numbers_of(alloc, &Words::new(ids))?;
         self.events.push(Event {
             attributes: entry.attributes,
             ids,
         })?;
-        Ok(Ok(()))
+        Ok(())
     }
 
     // Takes the events of a file.
@@ -160,7 +193,7 @@ impl Recording {
         alloc: Global,
         source: &mut Source,
         header: &FileHeader,
-    ) -> Result<Result<(), Refusal>> {
+    ) -> Result<(), ReadError> {
         let end = header
             .attributes
             .offset
@@ -171,12 +204,10 @@ impl Recording {
             if end.saturating_sub(offset) < header.attribute_size {
                 break;
             }
-            if let Err(refusal) = self.take_entry(alloc, source, header, offset)? {
-                return Ok(Err(refusal));
-            }
+            self.take_entry(alloc, source, header, offset)?;
             offset = offset.saturating_add(header.attribute_size);
         }
-        Ok(Ok(()))
+        Ok(())
     }
 
     // Takes the build id of a file.
@@ -209,17 +240,16 @@ impl Recording {
         alloc: Global,
         number: u32,
         feature: &[u8],
-    ) -> Result<Result<(), Refusal>, AllocError> {
+    ) -> Result<(), ReadError> {
         match number {
-            ARCHITECTURE => match architecture_in(feature) {
-                Ok(machine) => self.machine = Some(machine),
-                Err(error) => return Ok(Err(Refusal::Machine(error))),
-            },
+            ARCHITECTURE => {
+                self.machine = Some(architecture_in(feature).map_err(Refusal::Machine)?);
+            }
             BUILD_IDS => self.take_build_ids(alloc, feature)?,
             EVENT_DESCRIPTIONS => self.event_names = event_names(alloc, feature)?,
             _ => {}
         }
-        Ok(Ok(()))
+        Ok(())
     }
 
     // Takes the features of a file that are known, as far as they are there: they are written last, together with the size of the
@@ -229,12 +259,12 @@ impl Recording {
         alloc: Global,
         source: &mut Source,
         header: &FileHeader,
-    ) -> Result<Result<(), Refusal>> {
+    ) -> Result<(), ReadError> {
         if header.data.size == 0 {
-            return Ok(Ok(()));
+            return Ok(());
         }
         let Some(place) = header.feature_table() else {
-            return Ok(Ok(()));
+            return Ok(());
         };
         for number in [ARCHITECTURE, BUILD_IDS, EVENT_DESCRIPTIONS] {
             let table = source.bytes(place.offset, place.size, 0)?;
@@ -245,58 +275,47 @@ impl Recording {
             if (feature.len() as u64) < place.size {
                 continue;
             }
-            if let Err(refusal) = self.take_feature(alloc, number, feature)? {
-                return Ok(Err(refusal));
-            }
+            self.take_feature(alloc, number, feature)?;
         }
-        Ok(Ok(()))
+        Ok(())
     }
 
     // Takes a record of the kernel: when it was made.
-    fn take_place(&mut self, record: &Record<'_>) -> Result<Result<(), Refusal>, AllocError> {
+    fn take_place(&mut self, record: &Record<'_>) -> Result<(), ReadError> {
         let index = match event_of(self.events.as_slice(), record) {
             Ok(index) => index,
-            Err(EventError::NoEvent) => return Ok(Err(Refusal::Events(EventError::NoEvent))),
-            Err(EventError::MixedLayouts) => {
-                return Ok(Err(Refusal::Events(EventError::MixedLayouts)));
-            }
-            Err(_) => {
-                self.unreadable = self.unreadable.saturating_add(1);
-                return Ok(Ok(()));
-            }
+            Err(error) => match error {
+                EventError::NoEvent | EventError::MixedLayouts => {
+                    return Err(ReadError::Refused(Refusal::Events(error)));
+                }
+                _ => {
+                    self.unreadable = self.unreadable.saturating_add(1);
+                    return Ok(());
+                }
+            },
         };
         let Some(event) = self.events.get(index) else {
-            return Ok(Ok(()));
+            return Ok(());
         };
         match time_of(record, &event.attributes) {
             Ok(time) => self.places.push(RecordPlace::new(time, record.offset))?,
             Err(_) => self.unreadable = self.unreadable.saturating_add(1),
         }
-        Ok(Ok(()))
+        Ok(())
     }
 
     // Takes the attributes of an event of a pipe.
-    fn take_attributes(
-        &mut self,
-        alloc: Global,
-        record: &Record<'_>,
-    ) -> Result<Result<(), Refusal>, AllocError> {
-        match Attributes::parse_with_ids(record.payload) {
-            Ok((attributes, words)) => {
-                let ids = numbers_of(alloc, &words)?;
-                self.events.push(Event { attributes, ids })?;
-                Ok(Ok(()))
-            }
-            Err(error) => Ok(Err(Refusal::Attributes(error))),
-        }
+    fn take_attributes(&mut self, alloc: Global, record: &Record<'_>) -> Result<(), ReadError> {
+        let (attributes, words) = Attributes::parse_with_ids(record.payload).map_err(
+            Refusal::Attributes,
+        )?;
+        let ids = numbers_of(alloc, &words)?;
+        self.events.push(Event { attributes, ids })?;
+        Ok(())
     }
 
     // Takes a record.
-    fn take_record(
-        &mut self,
-        alloc: Global,
-        record: &Record<'_>,
-    ) -> Result<Result<(), Refusal>, AllocError> {
+    fn take_record(&mut self, alloc: Global, record: &Record<'_>) -> Result<(), ReadError> {
         match record.kind {
             RecordKind::Attributes => self.take_attributes(alloc, record),
             RecordKind::Feature => {
@@ -304,15 +323,12 @@ impl Recording {
                 let number = u32::try_from(number).unwrap_or(0);
                 self.take_feature(alloc, number, rest_of(record.payload, 8))
             }
-            RecordKind::BuildId => {
-                self.take_build_id(alloc, record)?;
-                Ok(Ok(()))
-            }
-            RecordKind::Compressed => Ok(Err(Refusal::Compressed {
+            RecordKind::BuildId => Ok(self.take_build_id(alloc, record)?),
+            RecordKind::Compressed => Err(ReadError::Refused(Refusal::Compressed {
                 offset: record.offset,
             })),
             kind if is_taken(kind) => self.take_place(record),
-            _ => Ok(Ok(())),
+            _ => Ok(()),
         }
     }
 
@@ -322,7 +338,7 @@ impl Recording {
         alloc: Global,
         source: &mut Source,
         data: Section,
-    ) -> Result<Result<(), Refusal>> {
+    ) -> Result<(), ReadError> {
         let end = data.offset.saturating_add(data.size);
         let mut offset = data.offset;
         for _ in 0..data.size {
@@ -330,9 +346,7 @@ impl Recording {
             let bytes = source.bytes(offset, left.min(MOST_BYTES), BLOCK)?;
             match record_at(bytes, offset) {
                 Ok(Some((record, size))) => {
-                    if let Err(refusal) = self.take_record(alloc, &record)? {
-                        return Ok(Err(refusal));
-                    }
+                    self.take_record(alloc, &record)?;
                     offset = offset.saturating_add(size);
                 }
                 Ok(None) => {
@@ -347,7 +361,7 @@ impl Recording {
                 }
             }
         }
-        Ok(Ok(()))
+        Ok(())
     }
 
     // Takes what a file says, and returns where its records are.
@@ -356,49 +370,36 @@ impl Recording {
         alloc: Global,
         source: &mut Source,
         header: &FileHeader,
-    ) -> Result<Result<Section, Refusal>> {
-        if let Err(refusal) = self.take_entries(alloc, source, header)? {
-            return Ok(Err(refusal));
-        }
-        if let Err(refusal) = self.take_features(alloc, source, header)? {
-            return Ok(Err(refusal));
-        }
+    ) -> Result<Section, ReadError> {
+        self.take_entries(alloc, source, header)?;
+        self.take_features(alloc, source, header)?;
         let data = header.data_in(source.size());
         if data.size != header.data.size {
             self.cut = Some(None);
         }
-        Ok(Ok(data))
+        Ok(data)
     }
 
     // Takes what a recording says before its records, and returns where these are.
-    fn take_head(
-        &mut self,
-        alloc: Global,
-        source: &mut Source,
-    ) -> Result<Result<Section, Refusal>> {
-        match read_header(source.bytes(0, FILE_HEADER_SIZE, 0)?) {
-            Ok(PerfHeader::Pipe) => Ok(Ok(Section {
+    fn take_head(&mut self, alloc: Global, source: &mut Source) -> Result<Section, ReadError> {
+        let bytes = source.bytes(0, FILE_HEADER_SIZE, 0)?;
+        match read_header(bytes).map_err(Refusal::Header)? {
+            PerfHeader::Pipe => Ok(Section {
                 offset: PIPE_HEADER_SIZE,
                 size: source.size().saturating_sub(PIPE_HEADER_SIZE),
-            })),
-            Ok(PerfHeader::File(header)) => self.take_file(alloc, source, &header),
-            Err(error) => Ok(Err(Refusal::Header(error))),
+            }),
+            PerfHeader::File(header) => self.take_file(alloc, source, &header),
         }
     }
 
     /// Reads a recording once, from its start to its end.
-    pub(crate) fn read(alloc: Global, source: &mut Source) -> Result<Result<Self, Refusal>>
-        ensures { IfOk result (λ read. IfOk read (λ recording. IsNonDecreasingBy (λ place. place.key) recording.places.items)) }
+    pub(crate) fn read(alloc: Global, source: &mut Source) -> Result<Self, ReadError>
+        ensures { IfOk result (λ recording. IsNonDecreasingBy (λ place. place.key) recording.places.items) }
     {
         let mut recording = Recording::new(alloc);
-        let data = match recording.take_head(alloc, source)? {
-            Ok(data) => data,
-            Err(refusal) => return Ok(Err(refusal)),
-        };
-        if let Err(refusal) = recording.take_records(alloc, source, data)? {
-            return Ok(Err(refusal));
-        }
+        let data = recording.take_head(alloc, source)?;
+        recording.take_records(alloc, source, data)?;
         sort_by_time(&mut recording.places)?;
-        Ok(Ok(recording))
+        Ok(recording)
     }
 }
