@@ -3,6 +3,7 @@
 use crate::entries::show_entries;
 use crate::lookups::{show_lookups, show_offsets};
 use crate::rows::show_program;
+use crate::shown::Shown;
 use crate::storages::{Growing, One, Small};
 use crate::words::{bytes, numbers, word};
 use crate::{expressions, instructions, pointers, tables};
@@ -14,6 +15,7 @@ use dwarf_frame_entries::{
 use dwarf_frame_rows::StoreOnHeap;
 use dwarf_readers::{EndianSlice, Reader, RunTimeEndian, TwoPieces};
 use std::alloc::Global;
+use std::str::SplitWhitespace;
 use test_readers::Backward;
 
 /// Bytes, how they are read, and what is asked of them.
@@ -67,19 +69,44 @@ pub fn digest(text: &str) -> u64 {
     sum
 }
 
+// How bytes are read.
+#[derive(Clone, Copy)]
+struct Reading {
+    is_eh_frame: bool,
+    vendor: Vendor,
+    endian: RunTimeEndian,
+    address_size: u8,
+    start: Option<u64>,
+}
+
+impl Reading {
+    // Reads the words before the bytes.
+    fn parse(words: &mut SplitWhitespace<'_>) -> Result<Self> {
+        Ok(Reading {
+            is_eh_frame: word(words)? == "eh_frame",
+            vendor: vendor_named(word(words)?),
+            endian: endian_named(word(words)?),
+            address_size: word(words)?.parse::<u8>()?,
+            start: word(words)?.parse::<u64>().ok(),
+        })
+    }
+}
+
 impl<'a> Case<'a> {
     /// Reads words: what is shown; whether the bytes are `eh_frame` or `debug_frame`, if they are a section of call frames; whose
     /// extensions are read, the byte order and the size of an address; the address of the first byte, or `-`; the bytes in hexadecimal;
     /// and numbers, whose meaning depends on what is shown.
     pub fn parse(alloc: Global, line: &'a str) -> Result<Self> {
         let mut words = line.split_whitespace();
+        let what = word(&mut words)?;
+        let reading = Reading::parse(&mut words)?;
         Ok(Case {
-            what: word(&mut words)?,
-            is_eh_frame: word(&mut words)? == "eh_frame",
-            vendor: vendor_named(word(&mut words)?),
-            endian: endian_named(word(&mut words)?),
-            address_size: word(&mut words)?.parse::<u8>()?,
-            start: word(&mut words)?.parse::<u64>().ok(),
+            what,
+            is_eh_frame: reading.is_eh_frame,
+            vendor: reading.vendor,
+            endian: reading.endian,
+            address_size: reading.address_size,
+            start: reading.start,
             bytes: bytes(alloc, &mut words)?,
             numbers: numbers(alloc, &mut words)?,
             behind: numbers(alloc, &mut words)?,
@@ -88,49 +115,70 @@ impl<'a> Case<'a> {
 
     /// What is shown of the bytes: by contexts on the heap, or of a `program` by contexts of each storage, the last two of which few rules
     /// and rows fill.
-    pub fn show(&self, alloc: Global) -> Result<String> {
-        if self.what != "program" {
-            return self.over_readers::<StoreOnHeap, StoreOnHeap>(alloc, &self.bytes);
+    pub fn show(&self, shown: &mut Shown) -> Result<()> {
+        if self.what == "program" {
+            return self.show_by_each(shown);
         }
-        let growing = self.over_readers::<Growing, Growing>(alloc, &self.bytes)?;
-        let heap = self.over_readers::<StoreOnHeap, StoreOnHeap>(alloc, &self.bytes)?;
-        let small = self.over_readers::<Small, Small>(alloc, &self.bytes)?;
-        let one = self.over_readers::<One, One>(alloc, &self.bytes)?;
-        Ok(format!(in alloc; "growing\n{growing}on the heap\n{heap}small\n{small}one\n{one}")?)
+        self.show_on_heap(&self.bytes, shown)
     }
 
-    // What is shown of other bytes.
-    fn show_bytes(&self, alloc: Global, bytes: &[u8]) -> Result<String> {
-        self.over_readers::<StoreOnHeap, StoreOnHeap>(alloc, bytes)
+    // What is shown of the bytes by contexts of each storage.
+    fn show_by_each(&self, shown: &mut Shown) -> Result<()> {
+        shown.text("growing\n");
+        self.over_readers::<Growing, Growing>(&self.bytes, shown)?;
+        shown.text("on the heap\n");
+        self.show_on_heap(&self.bytes, shown)?;
+        shown.text("small\n");
+        self.over_readers::<Small, Small>(&self.bytes, shown)?;
+        shown.text("one\n");
+        self.over_readers::<One, One>(&self.bytes, shown)
+    }
+
+    // What is shown of bytes by contexts on the heap.
+    fn show_on_heap(&self, bytes: &[u8], shown: &mut Shown) -> Result<()> {
+        self.over_readers::<StoreOnHeap, StoreOnHeap>(bytes, shown)
+    }
+
+    // The text of the same.
+    fn text_of(&self, alloc: Global, bytes: &[u8]) -> Result<String> {
+        let mut shown = Shown::new(alloc);
+        self.show_on_heap(bytes, &mut shown)?;
+        shown.finish()
     }
 
     /// What is shown of each front of the bytes, without what is the same as that of the front before.
-    pub fn show_fronts(&self, alloc: Global) -> Result<String> {
-        let mut shown = String::new(alloc);
-        let mut last = String::new(alloc);
+    pub fn show_fronts(&self, shown: &mut Shown) -> Result<()> {
+        let mut last = String::new(shown.alloc());
         for size in 0..self.bytes.len() + 1 {
-            let text = self.show_bytes(alloc, &self.bytes[..size])?;
+            let text = self.text_of(shown.alloc(), &self.bytes[..size])?;
             if text.as_str() != last.as_str() {
-                write!(shown, "{size} bytes\n{text}")?;
+                shown.number("", size as u64);
+                shown.text(" bytes\n");
+                shown.text(text.as_str());
                 last = text;
             }
         }
-        Ok(shown)
+        Ok(())
+    }
+
+    // The digest of what is shown with the byte at a place set to a value.
+    fn digest_with(&self, alloc: Global, place: usize, value: u8) -> Result<u64> {
+        let bytes = with_byte(alloc, &self.bytes, place, value)?;
+        let text = self.text_of(alloc, &bytes)?;
+        Ok(digest(text.as_str()))
     }
 
     /// For each byte, the digests of what is shown with it set to each value.
-    pub fn show_turned(&self, alloc: Global) -> Result<String> {
-        let mut shown = String::new(alloc);
+    pub fn show_turned(&self, shown: &mut Shown) -> Result<()> {
         for place in 0..self.bytes.len() {
-            write!(shown, "{place}:")?;
+            shown.number("", place as u64);
+            shown.text(":");
             for value in VALUES {
-                let bytes = with_byte(alloc, &self.bytes, place, value)?;
-                let text = self.show_bytes(alloc, &bytes)?;
-                write!(shown, " {:x}", digest(text.as_str()))?;
+                shown.hex(" ", self.digest_with(shown.alloc(), place, value)?);
             }
-            write!(shown, "\n")?;
+            shown.end();
         }
-        Ok(shown)
+        Ok(())
     }
 
     // What is shown of bytes in one piece. It has to be the same if they are in two pieces, cut at any offset, or stored back to
@@ -138,85 +186,131 @@ impl<'a> Case<'a> {
     // shown in one piece alone.
     fn over_readers<S: UnwindContextStorage<usize>, Short: UnwindContextStorage<u32>>(
         &self,
+        bytes: &[u8],
+        shown: &mut Shown,
+    ) -> Result<()> {
+        let text = self.over_pieces::<S>(shown.alloc(), bytes)?;
+        shown.text(text.as_str());
+        if self.what == "section" {
+            return Ok(());
+        }
+        let short = self.over_backward::<Short>(shown.alloc(), bytes)?;
+        if short.as_str() != text.as_str() {
+            shown.text("with offsets of 32 bits\n");
+            shown.text(short.as_str());
+        }
+        Ok(())
+    }
+
+    // What is shown of bytes in one piece and in two.
+    fn over_pieces<S: UnwindContextStorage<usize>>(
+        &self,
         alloc: Global,
         bytes: &[u8],
     ) -> Result<String> {
-        let mut context: UnwindContext<usize, S> = UnwindContext::new_in(alloc)?;
+        let mut shown = Shown::new(alloc);
+        self.show_pieces::<S>(bytes, &mut shown)?;
+        shown.finish()
+    }
+
+    // Shows the same by a new context.
+    fn show_pieces<S: UnwindContextStorage<usize>>(
+        &self,
+        bytes: &[u8],
+        shown: &mut Shown,
+    ) -> Result<()> {
+        let mut context: UnwindContext<usize, S> = UnwindContext::new_in(shown.alloc())?;
         let reader = EndianSlice::new(bytes, self.endian);
-        let mut shown = self.show_reader(alloc, reader, &mut context)?;
+        self.show_reader(reader, &mut context, shown)?;
         if self.what == "section" {
-            return Ok(shown);
+            return Ok(());
         }
-        let short = self.show_backward::<Short>(alloc, bytes)?;
-        if let Some(cut) = self.odd_cut(alloc, bytes, &mut context, shown.as_str())? {
-            write!(shown, "otherwise where it is cut at {cut}\n")?;
+        self.show_odd_cut(bytes, &mut context, shown)
+    }
+
+    // Shows the first offset at which bytes in two pieces that are cut there show something else, if there is one.
+    fn show_odd_cut<S: UnwindContextStorage<usize>>(
+        &self,
+        bytes: &[u8],
+        context: &mut UnwindContext<usize, S>,
+        shown: &mut Shown,
+    ) -> Result<()> {
+        for cut in 0..bytes.len() + 1 {
+            let pieces = TwoPieces::new(&bytes[..cut], &bytes[cut..], self.endian);
+            let other = self.over_reader(shown.alloc(), pieces, context)?;
+            if other.as_str() != shown.as_str() {
+                shown.number("otherwise where it is cut at ", cut as u64);
+                shown.end();
+                return Ok(());
+            }
         }
-        if short.as_str() != shown.as_str() {
-            write!(shown, "with offsets of 32 bits\n{short}")?;
-        }
-        Ok(shown)
+        Ok(())
     }
 
     // What is shown of bytes that are stored back to front.
-    fn show_backward<S: UnwindContextStorage<u32>>(
+    fn over_backward<S: UnwindContextStorage<u32>>(
         &self,
         alloc: Global,
         bytes: &[u8],
     ) -> Result<String> {
-        u32::try_from(bytes.len())?;
-        let mut context: UnwindContext<u32, S> = UnwindContext::new_in(alloc)?;
         let mut stored = Vec::from_slice(alloc, bytes)?;
         stored.reverse();
-        let reader = Backward::new_at(&stored, self.endian, 0);
-        self.show_reader(alloc, reader, &mut context)
+        self.over_stored::<S>(alloc, &stored)
     }
 
-    // The first offset at which bytes in two pieces that are cut there show something else, if there is one.
-    fn odd_cut<S: UnwindContextStorage<usize>>(
+    // The same of bytes as they are stored.
+    fn over_stored<S: UnwindContextStorage<u32>>(
         &self,
         alloc: Global,
-        bytes: &[u8],
-        context: &mut UnwindContext<usize, S>,
-        shown: &str,
-    ) -> Result<Option<usize>> {
-        for cut in 0..bytes.len() + 1 {
-            let pieces = TwoPieces::new(&bytes[..cut], &bytes[cut..], self.endian);
-            let other = self.show_reader(alloc, pieces, context)?;
-            if other.as_str() != shown {
-                return Ok(Some(cut));
-            }
-        }
-        Ok(None)
+        stored: &[u8],
+    ) -> Result<String> {
+        u32::try_from(stored.len())?;
+        let mut context: UnwindContext<u32, S> = UnwindContext::new_in(alloc)?;
+        let reader = Backward::new_at(stored, self.endian, 0);
+        self.over_reader(alloc, reader, &mut context)
     }
 
-    // What is shown by a reader, and by a context that may have been used before.
-    fn show_reader<R: Reader, S: UnwindContextStorage<R::Offset>>(
+    // The text of what is shown by a reader.
+    fn over_reader<R: Reader, S: UnwindContextStorage<R::Offset>>(
         &self,
         alloc: Global,
         reader: R,
         context: &mut UnwindContext<R::Offset, S>,
     ) -> Result<String> {
+        let mut shown = Shown::new(alloc);
+        self.show_reader(reader, context, &mut shown)?;
+        shown.finish()
+    }
+
+    // Shows what a reader reads, by a context that may have been used before.
+    fn show_reader<R: Reader, S: UnwindContextStorage<R::Offset>>(
+        &self,
+        reader: R,
+        context: &mut UnwindContext<R::Offset, S>,
+        shown: &mut Shown,
+    ) -> Result<()> {
         match self.what {
-            "table" => tables::show(alloc, self, reader),
-            "pointer" => pointers::show_one(alloc, self, reader),
-            "pointers" => pointers::show(alloc, self, reader),
-            "expressions" => expressions::show(alloc, &self.numbers, reader),
-            "instructions" => instructions::show(alloc, self, reader),
-            _ => self.show_frames(alloc, reader, context),
+            "table" => tables::show(self, reader, shown),
+            "pointer" => pointers::show_one(self, reader, shown)?,
+            "pointers" => pointers::show(self, reader, shown)?,
+            "expressions" => expressions::show(&self.numbers, reader, shown)?,
+            "instructions" => instructions::show(self, reader, shown)?,
+            _ => self.show_frames(reader, context, shown)?,
         }
+        Ok(())
     }
 
     // What is shown of call frames by a reader.
     fn show_frames<R: Reader, S: UnwindContextStorage<R::Offset>>(
         &self,
-        alloc: Global,
         reader: R,
         context: &mut UnwindContext<R::Offset, S>,
-    ) -> Result<String> {
+        shown: &mut Shown,
+    ) -> Result<()> {
         if !self.is_eh_frame {
             let mut section = DebugFrame::from(reader);
             section.set_vendor(self.vendor);
-            return self.show_section(alloc, &section, context);
+            return self.show_section(&section, context, shown);
         }
         let mut section = EhFrame::from(reader);
         section.set_vendor(self.vendor);
@@ -226,23 +320,24 @@ impl<'a> Case<'a> {
             4 => section.set_address_size(4),
             _ => {}
         }
-        self.show_section(alloc, &section, context)
+        self.show_section(&section, context, shown)
     }
 
     // What is shown of a section.
     fn show_section<R: Reader, S: UnwindContextStorage<R::Offset>, Section: UnwindSection<R>>(
         &self,
-        alloc: Global,
         section: &Section,
         context: &mut UnwindContext<R::Offset, S>,
-    ) -> Result<String> {
+        shown: &mut Shown,
+    ) -> Result<()> {
         let bases = self.bases();
         match self.what {
-            "program" => show_program(alloc, section, &bases, &self.numbers, context),
-            "lookups" => show_lookups(alloc, section, &bases, &self.numbers, context),
-            "offsets" => show_offsets(alloc, section, &bases, &self.numbers),
-            _ => show_entries(alloc, section, &bases, context),
+            "program" => show_program(section, &bases, &self.numbers, context, shown)?,
+            "lookups" => show_lookups(section, &bases, &self.numbers, context, shown),
+            "offsets" => show_offsets(section, &bases, &self.numbers, shown)?,
+            _ => show_entries(section, &bases, context, shown),
         }
+        Ok(())
     }
 
     // The addresses that pointers of a section are relative to.

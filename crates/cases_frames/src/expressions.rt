@@ -1,31 +1,54 @@
 //! The bytes of expressions, by their offsets in a section.
 
+use crate::shown::Shown;
 use anyhow::Result;
+use dwarf_constants::Result as Answer;
 use dwarf_frame_rows::UnwindExpression;
 use dwarf_frame_sections::EhFrame;
 use dwarf_operations::Expression;
 use dwarf_readers::{Reader, ReaderOffset};
-use std::alloc::Global;
 
-/// For each two numbers, an expression's offset and its length: its bytes and their offset, or the error.
-pub fn show<R: Reader>(alloc: Global, numbers: &[u64], reader: R) -> Result<String> {
-    let section = EhFrame::from(reader);
-    let mut shown = String::new(alloc);
-    for pair in numbers.chunks(2) {
-        let [offset, length] = pair else {
-            continue;
-        };
-        let expression = UnwindExpression {
-            offset: R::Offset::from_u64(*offset)?,
-            length: R::Offset::from_u64(*length)?,
-        };
-        match expression.get(&section) {
-            Ok(Expression(bytes)) => {
-                let (place, bytes) = (bytes.offset_id(), bytes.to_slice(alloc)?);
-                write!(shown, "  {place:?} {:?}\n", bytes.as_slice())?;
-            }
-            Err(error) => write!(shown, "  {error:?}\n")?,
+// A line with the bytes of an expression and their offset.
+fn show_bytes<R: Reader>(bytes: R, shown: &mut Shown) -> Answer<()> {
+    shown.place("  ", bytes.offset_id());
+    let bytes = bytes.to_slice(shown.alloc())?;
+    shown.value(" ", &bytes.as_slice());
+    shown.end();
+    Ok(())
+}
+
+// An expression at an offset with a length.
+fn expression<T: ReaderOffset>(offset: u64, length: u64) -> Answer<UnwindExpression<T>> {
+    Ok(UnwindExpression {
+        offset: T::from_u64(offset)?,
+        length: T::from_u64(length)?,
+    })
+}
+
+// A line with the bytes of the expression at an offset with a length, or the error.
+fn show_one<R: Reader>(
+    section: &EhFrame<R>,
+    offset: u64,
+    length: u64,
+    shown: &mut Shown,
+) -> Answer<()> {
+    let expression = expression::<R::Offset>(offset, length)?;
+    match expression.get(section) {
+        Ok(Expression(bytes)) => show_bytes(bytes, shown),
+        Err(error) => {
+            shown.error_line("  ", error);
+            Ok(())
         }
     }
-    Ok(shown)
+}
+
+/// For each two numbers, an expression's offset and its length: its bytes and their offset, or the error.
+pub fn show<R: Reader>(numbers: &[u64], reader: R, shown: &mut Shown) -> Result<()> {
+    let section = EhFrame::from(reader);
+    for pair in numbers.chunks(2) {
+        if let [offset, length] = pair {
+            show_one(&section, *offset, *length, shown)?;
+        }
+    }
+    Ok(())
 }

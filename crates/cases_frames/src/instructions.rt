@@ -1,11 +1,12 @@
 //! Instructions in their bytes.
 
 use crate::case::Case;
+use crate::shown::Shown;
 use anyhow::Result;
-use dwarf_constants::{DwEhPe, Vendor};
-use dwarf_frame_instructions::CallFrameInstructionIter;
+use dwarf_constants::{DwEhPe, Result as Answer, Vendor};
+use dwarf_frame_instructions::{CallFrameInstruction, CallFrameInstructionIter};
 use dwarf_frame_rows::{PointerEncodingParameters, SectionBaseAddresses};
-use dwarf_readers::Reader;
+use dwarf_readers::{Reader, ReaderOffset};
 use std::alloc::Global;
 
 /// The instructions in all bytes of a section, with addresses of eight bytes.
@@ -24,75 +25,87 @@ pub fn instructions<'a, R: Reader>(
     CallFrameInstructionIter::new(*section, encoding, parameters, vendor)
 }
 
-// The instructions and an error, by `next` alone.
-fn list<R: Reader>(
-    instructions: CallFrameInstructionIter<'_, R>,
-    shown: &mut String,
-) -> Result<()> {
-    for answer in instructions {
-        match answer {
-            Ok(instruction) => write!(shown, "  {instruction:?}\n")?,
-            Err(error) => write!(shown, "  {error:?}\n")?,
-        }
+// How many instructions and errors there are at most.
+const MOST: usize = 100;
+
+// A line for an instruction after a mark, or for the error.
+fn show_answer<T: ReaderOffset>(
+    mark: &str,
+    answer: Answer<CallFrameInstruction<T>>,
+    shown: &mut Shown,
+) {
+    match answer {
+        Ok(instruction) => shown.value(mark, &instruction),
+        Err(error) => shown.error("  ", error),
     }
-    Ok(())
+    shown.end();
+}
+
+// The instructions and an error, by `next` alone.
+fn list<R: Reader>(alloc: Global, instructions: CallFrameInstructionIter<'_, R>) -> Result<String> {
+    let mut shown = Shown::new(alloc);
+    for answer in instructions {
+        show_answer("  ", answer, &mut shown);
+    }
+    shown.finish()
 }
 
 // The same, with a mark before each instruction that `next_if_frequent` gives.
 fn list_marked<R: Reader>(
     instructions: CallFrameInstructionIter<'_, R>,
     mark: &str,
-    shown: &mut String,
-) -> Result<()> {
+    shown: &mut Shown,
+) {
     let (coding, mut input) = instructions.into_parts();
     for _ in 0..MOST {
         if let Some(instruction) = coding.next_if_frequent(&mut input) {
-            write!(shown, "  {mark}{instruction:?}\n")?;
+            show_answer(mark, Ok(instruction), shown);
             continue;
         }
-        match coding.next_by_call(&mut input) {
-            Ok(Some(instruction)) => write!(shown, "  {instruction:?}\n")?,
-            Err(error) => write!(shown, "  {error:?}\n")?,
-            Ok(None) => break,
+        match coding.next_by_call(&mut input).transpose() {
+            Some(answer) => show_answer("  ", answer, shown),
+            None => break,
         }
+    }
+}
+
+// Adds the instructions by `next` alone, if they are others without the question for frequent ones.
+fn show_otherwise<R: Reader>(
+    one: CallFrameInstructionIter<'_, R>,
+    other: CallFrameInstructionIter<'_, R>,
+    shown: &mut Shown,
+) -> Result<()> {
+    let mut plain = Shown::new(shown.alloc());
+    list_marked(other, "  ", &mut plain);
+    let plain = plain.finish()?;
+    let each = list(shown.alloc(), one)?;
+    if each.as_str() != plain.as_str() {
+        shown.text("otherwise one after the other\n");
+        shown.text(each.as_str());
     }
     Ok(())
 }
 
-// How many instructions and errors there are at most.
-const MOST: usize = 100;
+// How addresses are encoded, if a number says it.
+fn encoding_of(numbers: &[u64]) -> Result<Option<DwEhPe>> {
+    match numbers.first() {
+        Some(encoding) => Ok(Some(DwEhPe(u8::try_from(*encoding)?))),
+        None => Ok(None),
+    }
+}
 
 /// The instructions, with a star before each frequent one, and an error. They have to be the same without the question for these. The
 /// number, if there is one, says how addresses are encoded.
-pub fn show<R: Reader>(alloc: Global, case: &Case<'_>, section: R) -> Result<String> {
+pub fn show<R: Reader>(case: &Case<'_>, section: R, shown: &mut Shown) -> Result<()> {
     let bases = SectionBaseAddresses {
         section: case.start,
         text: None,
         data_base: None,
     };
-    let encoding = match case.numbers.first() {
-        Some(encoding) => Some(DwEhPe(u8::try_from(*encoding)?)),
-        None => None,
-    };
-    let mut each = String::new(alloc);
-    list(
-        instructions(&section, &bases, encoding, case.vendor),
-        &mut each,
-    )?;
-    let mut plain = String::new(alloc);
-    list_marked(
-        instructions(&section, &bases, encoding, case.vendor),
-        "",
-        &mut plain,
-    )?;
-    let mut shown = String::new(alloc);
-    list_marked(
-        instructions(&section, &bases, encoding, case.vendor),
-        "*",
-        &mut shown,
-    )?;
-    if each.as_str() != plain.as_str() {
-        write!(shown, "otherwise one after the other\n{each}")?;
-    }
-    Ok(shown)
+    let encoding = encoding_of(&case.numbers)?;
+    let marked = instructions(&section, &bases, encoding, case.vendor);
+    let one = instructions(&section, &bases, encoding, case.vendor);
+    let other = instructions(&section, &bases, encoding, case.vendor);
+    list_marked(marked, "  *", shown);
+    show_otherwise(one, other, shown)
 }

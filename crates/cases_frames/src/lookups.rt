@@ -1,14 +1,13 @@
 //! What sections have for addresses and at offsets.
 
-use crate::lines::answer_line;
-use anyhow::Result;
+use crate::lines::{edges, show_answer};
+use crate::shown::Shown;
 use dwarf_constants::{Error, Result as Answer};
 use dwarf_frame_entries::{
     _UnwindSectionPrivate, BaseAddresses, FrameDescriptionEntry, PartialFrameDescriptionEntry,
     UnwindContext, UnwindContextStorage, UnwindSection, UnwindTableRow,
 };
 use dwarf_readers::{Reader, ReaderOffset};
-use std::alloc::Global;
 
 // A reader, for which the type names the types that belong to it.
 #[derive(Clone, Copy)]
@@ -60,33 +59,22 @@ fn first_for<R: Reader, Section: UnwindSection<R>>(
     })
 }
 
-// The first FDE for an address that can be read.
+// The first FDE for an address that can be read, or what comes if there is no memory for a CIE.
 fn readable_for<R: Reader, Section: UnwindSection<R>>(
     section: &Section,
     bases: &BaseAddresses,
     address: u64,
+    has_memory: bool,
 ) -> Answer<FrameDescriptionEntry<R>> {
     let of = Of {
         reader: *section.section(),
     };
     section.fde_for_address_skipping(bases, address, move |s, b, o| {
         let _of = of;
+        if !has_memory {
+            return Err(Error::OutOfMemory);
+        }
         s.cie_from_offset(b, o)
-    })
-}
-
-// What comes for an address if there is no memory for a CIE.
-fn without_memory<R: Reader, Section: UnwindSection<R>>(
-    section: &Section,
-    bases: &BaseAddresses,
-    address: u64,
-) -> Answer<FrameDescriptionEntry<R>> {
-    let of = Of {
-        reader: *section.section(),
-    };
-    section.fde_for_address_skipping(bases, address, move |_s, _b, _o| {
-        let _of = of;
-        Err(Error::OutOfMemory)
     })
 }
 
@@ -117,73 +105,82 @@ fn show_fdes<R: Reader, Section: UnwindSection<R>>(
     section: &Section,
     bases: &BaseAddresses,
     address: u64,
-    shown: &mut String,
-) -> Result<()> {
-    let first = offset_of(first_for(section, bases, address));
-    write!(shown, "  {address:x}: {first:?}")?;
-    let readable = offset_of(readable_for(section, bases, address));
-    let wanting = offset_of(without_memory(section, bases, address));
-    write!(shown, ", {readable:?}, {wanting:?}")?;
-    Ok(())
+    shown: &mut Shown,
+) {
+    shown.hex("  ", address);
+    shown.answer(": ", offset_of(first_for(section, bases, address)));
+    let readable = readable_for(section, bases, address, true);
+    shown.answer(", ", offset_of(readable));
+    let wanting = readable_for(section, bases, address, false);
+    shown.answer(", ", offset_of(wanting));
 }
 
 /// A line for each address: the FDEs for it, and the row or an error.
 pub fn show_lookups<R: Reader, S: UnwindContextStorage<R::Offset>, Section: UnwindSection<R>>(
-    alloc: Global,
     section: &Section,
     bases: &BaseAddresses,
     addresses: &[u64],
     context: &mut UnwindContext<R::Offset, S>,
-) -> Result<String> {
-    let mut shown = String::new(alloc);
+    shown: &mut Shown,
+) {
     for address in addresses {
-        show_fdes(section, bases, *address, &mut shown)?;
-        let row = row_for(section, bases, context, *address);
-        let line = answer_line(alloc, row)?;
-        write!(shown, ", {line}\n")?;
+        show_fdes(section, bases, *address, shown);
+        shown.text(", ");
+        show_answer(row_for(section, bases, context, *address), shown);
     }
-    Ok(shown)
+}
+
+// Adds whether an FDE's code contains its first address, its last and those beside them.
+fn show_contained<R: Reader>(fde: &FrameDescriptionEntry<R>, shown: &mut Shown) {
+    shown.text(" contains");
+    for address in edges(fde.initial_address(), fde.end_address()) {
+        shown.flag(" ", fde.contains(address));
+    }
+    shown.end();
 }
 
 // Adds an FDE's place, the version of its CIE, and the end of its code; and whether its code contains its first address, its last and
 // those beside them. Or adds the error.
-fn show_place<R: Reader>(fde: Answer<FrameDescriptionEntry<R>>, shown: &mut String) -> Result<()> {
+fn show_place<R: Reader>(fde: Answer<FrameDescriptionEntry<R>>, shown: &mut Shown) {
     match fde {
         Ok(fde) => {
-            let (offset, length) = (fde.offset().into_u64(), fde.entry_len().into_u64());
-            let (start, end) = (fde.initial_address(), fde.end_address());
-            let (first, last) = (fde.contains(start), fde.contains(end.wrapping_sub(1)));
-            let (before, behind) = (fde.contains(start.wrapping_sub(1)), fde.contains(end));
-            let version = fde.cie().version();
-            write!(
-                shown,
-                ", {offset:x} length {length:x} version {version} end {end:x}"
-            )?;
-            write!(shown, " contains {before} {first} {last} {behind}\n")?;
+            shown.hex(", ", fde.offset().into_u64());
+            shown.hex(" length ", fde.entry_len().into_u64());
+            shown.number(" version ", u64::from(fde.cie().version()));
+            shown.hex(" end ", fde.end_address());
+            show_contained(&fde, shown);
         }
-        Err(error) => write!(shown, ", {error:?}\n")?,
+        Err(error) => shown.error_line(", ", error),
     }
-    Ok(())
+}
+
+// A line for an offset: the CIE there or an error, and the FDE or an error.
+fn show_at<R: Reader, Section: UnwindSection<R>>(
+    section: &Section,
+    bases: &BaseAddresses,
+    offset: Section::Offset,
+    shown: &mut Shown,
+) {
+    match section.cie_from_offset(bases, offset) {
+        Ok(cie) => shown.hex("  ", cie.offset().into_u64()),
+        Err(error) => shown.error("  ", error),
+    }
+    match section.partial_fde_from_offset(bases, offset) {
+        Ok(partial) => show_place(partial.parse_by_offset(), shown),
+        Err(error) => shown.error_line(", ", error),
+    }
 }
 
 /// A line for each offset: the CIE there or an error, and the FDE or an error.
 pub fn show_offsets<R: Reader, Section: UnwindSection<R>>(
-    alloc: Global,
     section: &Section,
     bases: &BaseAddresses,
     offsets: &[u64],
-) -> Result<String> {
-    let mut shown = String::new(alloc);
+    shown: &mut Shown,
+) -> Answer<()> {
     for offset in offsets {
         let offset = Section::Offset::from(R::Offset::from_u64(*offset)?);
-        match section.cie_from_offset(bases, offset) {
-            Ok(cie) => write!(shown, "  {:x}", cie.offset().into_u64())?,
-            Err(error) => write!(shown, "  {error:?}")?,
-        }
-        match section.partial_fde_from_offset(bases, offset) {
-            Ok(partial) => show_place(partial.parse_by_offset(), &mut shown)?,
-            Err(error) => write!(shown, ", {error:?}\n")?,
-        }
+        show_at(section, bases, offset, shown);
     }
-    Ok(shown)
+    Ok(())
 }

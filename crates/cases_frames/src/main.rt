@@ -15,6 +15,7 @@ mod lines;
 mod lookups;
 mod pointers;
 mod rows;
+mod shown;
 mod steps;
 mod storages;
 mod tables;
@@ -24,6 +25,7 @@ mod words;
 use anyhow::Result;
 use case::Case;
 use headers::show_headers;
+use shown::Shown;
 use std::alloc::Global;
 use std::io::Read;
 use steps::show_steps;
@@ -41,13 +43,20 @@ fn main(rt: HostRuntime) -> Result<()> {
 
 // What is shown for a line.
 fn show(alloc: Global, line: &str) -> Result<String> {
+    let mut shown = Shown::new(alloc);
+    show_line(line, &mut shown)?;
+    shown.finish()
+}
+
+// Shows what the first word of a line says.
+fn show_line(line: &str, shown: &mut Shown) -> Result<()> {
     let (first, rest) = line.split_once(' ').unwrap_or((line, ""));
     match first {
-        "fronts" => Case::parse(alloc, rest)?.show_fronts(alloc),
-        "turned" => Case::parse(alloc, rest)?.show_turned(alloc),
-        "headers" => show_headers(alloc, rest),
-        "steps" => show_steps(alloc, rest),
-        "texts" => show_texts(alloc),
-        _ => Case::parse(alloc, line)?.show(alloc),
+        "fronts" => Case::parse(shown.alloc(), rest)?.show_fronts(shown),
+        "turned" => Case::parse(shown.alloc(), rest)?.show_turned(shown),
+        "headers" => show_headers(rest, shown),
+        "steps" => show_steps(rest, shown),
+        "texts" => show_texts(shown),
+        _ => Case::parse(shown.alloc(), line)?.show(shown),
     }
 }

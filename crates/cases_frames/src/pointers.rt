@@ -3,27 +3,25 @@
 ghost use Rattle.std.specs.Prelude.{◌≤◌};
 
 use crate::case::Case;
-use anyhow::Result;
-use dwarf_constants::DwEhPe;
+use crate::shown::Shown;
+use dwarf_constants::{DwEhPe, Result as Answer};
 use dwarf_frame_rows::{
-    BaseAddresses, PointerEncodingParameters, SectionBaseAddresses, parse_encoded_pointer,
+    BaseAddresses, Pointer, PointerEncodingParameters, SectionBaseAddresses, parse_encoded_pointer,
     parse_encoded_value, parse_pointer_encoding,
 };
 use dwarf_readers::{Reader, ReaderOffset};
-use std::alloc::Global;
 
 // The offset of the pointer in its section.
 const PLACE: u8 = 4;
 
-// Adds the pointer in an encoding, or the error. The bits of a number say which of the addresses are known that it may be relative to.
-fn show_pointer<R: Reader>(
-    alloc: Global,
+// The pointer in an encoding, or the error. The bits of a number say which of the addresses are known that it may be relative to.
+fn pointer_in<R: Reader>(
     case: &Case<'_>,
     encoding: u8,
     known: u8,
     section: &R,
     pointer: R,
-) -> Result<String>
+) -> Answer<Pointer>
     requires { (R.stretch section.now).offset ≤ (R.stretch pointer).offset }
 {
     let bases = SectionBaseAddresses {
@@ -38,48 +36,62 @@ fn show_pointer<R: Reader>(
         section,
     };
     let mut input = pointer;
-    match parse_encoded_pointer(DwEhPe(encoding), &parameters, &mut input) {
-        Ok(pointer) => Ok(format!(in alloc; "{pointer:?}")?),
-        Err(error) => Ok(format!(in alloc; "{error:?}")?),
+    parse_encoded_pointer(DwEhPe(encoding), &parameters, &mut input)
+}
+
+// Adds a line for an encoding, which addresses are known, and the pointer or the error.
+fn show_pointer(encoding: u8, known: u8, pointer: Answer<Pointer>, shown: &mut Shown) {
+    shown.hex("  ", u64::from(encoding));
+    shown.number(" ", u64::from(known));
+    match pointer {
+        Ok(pointer) => shown.value(": ", &pointer),
+        Err(error) => shown.error(": ", error),
     }
+    shown.end();
 }
 
 // Adds lines for an encoding in each of the 16 ways, without what is the same as the line before.
 fn show_encoding<R: Reader>(
-    alloc: Global,
     case: &Case<'_>,
     encoding: u8,
     section: &R,
     pointer: R,
-    shown: &mut String,
-) -> Result<()>
+    shown: &mut Shown,
+)
     requires { (R.stretch section.now).offset ≤ (R.stretch pointer).offset }
 {
-    let mut last = String::new(alloc);
+    let mut last = None;
     for known in 0..16 {
-        let text = show_pointer(alloc, case, encoding, known, section, pointer)?;
-        if text.as_str() != last.as_str() {
-            write!(shown, "  {encoding:x} {known}: {text}\n")?;
-            last = text;
+        let pointer = pointer_in(case, encoding, known, section, pointer);
+        if last != Some(pointer) {
+            show_pointer(encoding, known, pointer, shown);
+            last = Some(pointer);
         }
     }
-    Ok(())
 }
 
 /// What each byte says of the pointer behind the first bytes, as its encoding, with each of the addresses that a pointer may be relative to
 /// known and unknown.
-pub fn show<R: Reader>(alloc: Global, case: &Case<'_>, reader: R) -> Result<String> {
+pub fn show<R: Reader>(case: &Case<'_>, reader: R, shown: &mut Shown) -> Answer<()> {
     let mut pointer = reader;
     pointer.skip(R::Offset::from_u8(PLACE))?;
-    let mut shown = String::new(alloc);
     for encoding in 0..=255 {
-        show_encoding(alloc, case, encoding, &reader, pointer, &mut shown)?;
+        show_encoding(case, encoding, &reader, pointer, shown);
     }
-    Ok(shown)
+    Ok(())
+}
+
+// Adds what the next byte is as an encoding, and what is left; and a value of four bytes, and what is behind it.
+fn show_behind<R: Reader>(mut input: R, mut value: R, shown: &mut Shown) {
+    shown.value(" ", &parse_pointer_encoding(&mut input));
+    shown.place(" ", input.offset_id());
+    shown.answer(" ", parse_encoded_value(DwEhPe(0x9a), 8, &mut value));
+    shown.place(" ", value.offset_id());
+    shown.end();
 }
 
 /// An encoding, a pointer in it, what the next byte is as an encoding, and what is left; and the pointer's first bytes as a value.
-pub fn show_one<R: Reader>(alloc: Global, case: &Case<'_>, reader: R) -> Result<String> {
+pub fn show_one<R: Reader>(case: &Case<'_>, reader: R, shown: &mut Shown) -> Answer<()> {
     let bases = BaseAddresses::default().set_eh_frame(case.start.unwrap_or(0));
     let parameters = PointerEncodingParameters {
         bases: &bases.eh_frame,
@@ -89,11 +101,10 @@ pub fn show_one<R: Reader>(alloc: Global, case: &Case<'_>, reader: R) -> Result<
     };
     let mut input = reader;
     let encoding = parse_pointer_encoding(&mut input)?;
-    let mut value = input;
-    let pointer = parse_encoded_pointer(encoding, &parameters, &mut input)?.direct();
-    let next = parse_pointer_encoding(&mut input);
-    let left = input.offset_id();
-    let short = parse_encoded_value(DwEhPe(0x9a), 8, &mut value);
-    let behind = value.offset_id();
-    Ok(format!(in alloc; "{encoding:?} {pointer:?} {next:?} {left:?} {short:?} {behind:?}\n")?)
+    let value = input;
+    let pointer = parse_encoded_pointer(encoding, &parameters, &mut input)?;
+    shown.value("", &encoding);
+    shown.answer(" ", pointer.direct());
+    show_behind(input, value, shown);
+    Ok(())
 }

@@ -1,11 +1,12 @@
 //! Headers, the rows of their tables, and lookups in these.
 
 use crate::case::Case;
-use anyhow::Result;
-use dwarf_call_frames::{BaseAddresses, EhFrameHdr, EhHdrTable, EhHdrTableIter, Pointer};
-use dwarf_constants::{Error, Result as Answer};
+use crate::shown::Shown;
+use dwarf_call_frames::{
+    BaseAddresses, EhFrameHdr, EhHdrTable, EhHdrTableIter, ParsedEhFrameHdr, Pointer,
+};
+use dwarf_constants::Result as Answer;
 use dwarf_readers::{Counted, Reader, ReaderOffset, Steps, count_steps};
-use std::alloc::Global;
 use std::sync::ledger::Ledger;
 
 // How many rows are shown at most.
@@ -34,137 +35,127 @@ impl<'t, 'a, 'b, R: Reader> Counted for CountedLookup<'t, 'a, 'b, R> {
 }
 
 // An address in hexadecimal, after a `*` if the pointer to it is indirect.
-fn pointer_of(alloc: Global, pointer: Pointer) -> Result<String> {
-    let text = match pointer {
-        Pointer::Direct(address) => format!(in alloc; "{address:x}")?,
-        Pointer::Indirect(address) => format!(in alloc; "*{address:x}")?,
-    };
-    Ok(text)
+fn show_pointer(before: &str, pointer: Pointer, shown: &mut Shown) {
+    shown.text(before);
+    match pointer {
+        Pointer::Direct(address) => shown.hex("", address),
+        Pointer::Indirect(address) => shown.hex("*", address),
+    }
 }
 
 // A row, an error, or "end".
-fn row_of(alloc: Global, row: Result<Option<(Pointer, Pointer)>, Error>) -> Result<String> {
+fn show_row(row: Answer<Option<(Pointer, Pointer)>>, shown: &mut Shown) {
     match row {
         Ok(Some((start, target))) => {
-            let start = pointer_of(alloc, start)?;
-            let target = pointer_of(alloc, target)?;
-            Ok(format!(in alloc; "{start} {target}")?)
+            show_pointer("", start, shown);
+            show_pointer(" ", target, shown);
         }
-        Ok(None) => Ok(format!(in alloc; "end")?),
-        Err(error) => Ok(format!(in alloc; "{error:?}")?),
+        Ok(None) => shown.text("end"),
+        Err(error) => shown.error("", error),
     }
 }
 
 // The first rows, one after the other.
-fn show_rows<R: Reader>(
-    alloc: Global,
-    mut rows: EhHdrTableIter<'_, '_, R>,
-    shown: &mut String,
-) -> Result<()> {
+fn show_rows<R: Reader>(mut rows: EhHdrTableIter<'_, '_, R>, shown: &mut Shown) {
     let (least, most) = rows.size_hint();
-    write!(shown, "{least} rows, {most:?} at most\n")?;
+    shown.number("", least as u64);
+    shown.value(" rows, ", &most);
+    shown.text(" at most\n");
     for _ in 0..MOST_ROWS {
-        let row = row_of(alloc, rows.next())?;
-        write!(shown, "  {row}\n")?;
+        shown.text("  ");
+        show_row(rows.next(), shown);
+        shown.end();
     }
-    write!(shown, "{} rows left\n", rows.size_hint().0)?;
-    Ok(())
+    shown.number("", rows.size_hint().0 as u64);
+    shown.text(" rows left\n");
 }
 
 // The row after some others, and how many are left then.
-fn show_behind<R: Reader>(
-    alloc: Global,
-    mut rows: EhHdrTableIter<'_, '_, R>,
-    count: usize,
-    shown: &mut String,
-) -> Result<()> {
-    let row = row_of(alloc, rows.nth(count))?;
-    let left = rows.size_hint().0;
-    write!(shown, "  behind {count}: {row}, {left} rows left\n")?;
-    Ok(())
+fn show_behind<R: Reader>(mut rows: EhHdrTableIter<'_, '_, R>, count: u64, shown: &mut Shown) {
+    shown.number("  behind ", count);
+    shown.text(": ");
+    show_row(rows.nth(count as usize), shown);
+    shown.number(", ", rows.size_hint().0 as u64);
+    shown.text(" rows left\n");
+}
+
+// A pointer's offset from the start of `.eh_frame`, or the error, and the end of the line.
+fn show_offset<R: Reader>(table: &EhHdrTable<'_, R>, pointer: Pointer, shown: &mut Shown) {
+    match table.pointer_to_offset(pointer) {
+        Ok(offset) => shown.hex(" at ", offset.0.into_u64()),
+        Err(error) => shown.error(" ", error),
+    }
+    shown.end();
 }
 
 // The pointer for an address with its offset from the start of `.eh_frame`, or the error of either. A lookup that is counted has to find
 // the same.
 fn show_address<R: Reader>(
-    alloc: Global,
     table: &EhHdrTable<'_, R>,
     bases: &BaseAddresses,
     address: u64,
-    shown: &mut String,
-) -> Result<()> {
+    shown: &mut Shown,
+) {
     let found = table.lookup(address, bases);
-    if count_steps(CountedLookup {
+    let counted = count_steps(CountedLookup {
         table,
         address,
         bases,
-    }) != found
-    {
-        write!(shown, "otherwise if it is counted\n")?;
+    });
+    if counted != found {
+        shown.text("otherwise if it is counted\n");
     }
+    shown.hex("  ", address);
     match found {
         Ok(pointer) => {
-            let text = pointer_of(alloc, pointer)?;
-            write!(shown, "  {address:x}: {text}")?;
-            show_offset(table, pointer, shown)
+            show_pointer(": ", pointer, shown);
+            show_offset(table, pointer, shown);
         }
-        Err(error) => {
-            write!(shown, "  {address:x}: {error:?}\n")?;
-            Ok(())
-        }
+        Err(error) => shown.error_line(": ", error),
     }
-}
-
-// A pointer's offset from the start of `.eh_frame`, or the error, and the end of the line.
-fn show_offset<R: Reader>(
-    table: &EhHdrTable<'_, R>,
-    pointer: Pointer,
-    shown: &mut String,
-) -> Result<()> {
-    match table.pointer_to_offset(pointer) {
-        Ok(offset) => write!(shown, " at {:x}\n", offset.0.into_u64())?,
-        Err(error) => write!(shown, " {error:?}\n")?,
-    }
-    Ok(())
 }
 
 // What is asked of a table: its rows, those behind so many, and lookups of addresses.
 fn show_table<R: Reader>(
-    alloc: Global,
     case: &Case<'_>,
     table: &EhHdrTable<'_, R>,
     bases: &BaseAddresses,
-    shown: &mut String,
-) -> Result<()> {
-    show_rows(alloc, table.iter(bases), shown)?;
+    shown: &mut Shown,
+) {
+    show_rows(table.iter(bases), shown);
     for count in &case.behind {
-        show_behind(alloc, table.iter(bases), *count as usize, shown)?;
+        show_behind(table.iter(bases), *count, shown);
     }
     for address in &case.numbers {
-        show_address(alloc, table, bases, *address, shown)?;
+        show_address(table, bases, *address, shown);
     }
-    Ok(())
+}
+
+// The start of `.eh_frame` by a header, and its table.
+fn show_header<R: Reader>(
+    case: &Case<'_>,
+    header: &ParsedEhFrameHdr<R>,
+    bases: &BaseAddresses,
+    shown: &mut Shown,
+) {
+    show_pointer("start ", header.eh_frame_ptr(), shown);
+    shown.end();
+    match header.table() {
+        Some(table) => show_table(case, &table, bases, shown),
+        None => shown.text("no table\n"),
+    }
 }
 
 /// What is shown of a header. The numbers are addresses that are looked up, and those behind them numbers of rows that are skipped.
-pub fn show<R: Reader>(alloc: Global, case: &Case<'_>, reader: R) -> Result<String> {
+pub fn show<R: Reader>(case: &Case<'_>, reader: R, shown: &mut Shown) {
     let bases = match case.start {
         Some(start) => BaseAddresses::default()
             .set_eh_frame_hdr(start)
             .set_text(0x1000),
         None => BaseAddresses::default(),
     };
-    let mut shown = String::new(alloc);
     match EhFrameHdr::from(reader).parse(&bases, case.address_size) {
-        Ok(header) => {
-            let start = pointer_of(alloc, header.eh_frame_ptr())?;
-            write!(shown, "start {start}\n")?;
-            match header.table() {
-                Some(table) => show_table(alloc, case, &table, &bases, &mut shown)?,
-                None => write!(shown, "no table\n")?,
-            }
-        }
-        Err(error) => write!(shown, "{error:?}\n")?,
+        Ok(header) => show_header(case, &header, &bases, shown),
+        Err(error) => shown.error_line("", error),
     }
-    Ok(shown)
 }
