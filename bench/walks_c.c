@@ -1,4 +1,4 @@
-/* Makes the module and the walks of crates/bench_walks by the C library, and prints the same lines as bench/walks_original.rs:
+/* Makes the module and the walks of crates/bench_steps by the C library, and prints the same lines as bench/walks_original.rs:
  *
  *     walks_c x86_64|aarch64 steps|walks [warm]
  *
@@ -14,7 +14,7 @@
 
 enum { ROOM = 512 };
 
-/* ---- what is timed, as crates/bench_walks/src/work.rt says */
+/* ---- what is timed, as crates/bench_steps/src/work.rt says */
 
 struct walk {
     uint64_t pc, code, sp, fp, mask;

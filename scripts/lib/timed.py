@@ -15,7 +15,9 @@ KINDS = {"walks": ("run", "Plain", ARCHS), "tables": ("run", "Tabulated", ARCHS)
          "caches": ("run_caches", None, {"x86_64": ARCHS["x86_64"]}), "pe": ("run_pe", None, {"": ARCHS["x86_64"]}),
          "frames": ("run_frames", None, {"": None})}
 NAMES = ["_".join(filter(None, ["bench", kind, arch])) for kind, (*_, archs) in KINDS.items() for arch in archs]
-BUILT = TOP / "crates/bench_walks/out"
+BUILT = TOP / "crates/bench_steps/out"
+# The program of the gate that makes what all of these time.
+CASES = TOP / "crates/cases_unwinding"
 
 
 def parts_of(name):
@@ -36,13 +38,13 @@ def main_of(name):
 
 
 def stored_of(name):
-    """The file of what a program is run on once it is built, as the arguments of `bench_walks` name it."""
-    words = (TOP / "crates/bench_walks/args").read_text().splitlines()
+    """The file of what a program is run on once it is built, as the arguments of `cases_unwinding` name it."""
+    words = (CASES / "args").read_text().splitlines()
     return dict(zip(words[::2], words[1::2]))[name.removeprefix("bench_")]
 
 
 def build(name):
-    """Proves and builds a program, and keeps it beside that of `bench_walks`."""
+    """Proves and builds a program, and keeps it in the folder of `bench_steps`."""
     with tempfile.TemporaryDirectory(prefix="bench-programs-") as room:
         copy = pathlib.Path(room)
         shutil.copytree(TOP / "crates", copy / "crates", ignore=shutil.ignore_patterns("out", "data"))
@@ -51,7 +53,7 @@ def build(name):
         folder = copy / "crates" / name
         (folder / "src").mkdir(parents=True)
         (folder / "src/main.rt").write_text(main_of(name))
-        with open(TOP / "crates/bench_walks/data" / stored_of(name), "rb") as source:
+        with open(CASES / "data" / stored_of(name), "rb") as source:
             done = subprocess.run(["rt", "run"], cwd=folder, stdin=source, stdout=subprocess.DEVNULL)
         if done.returncode:
             give_up(f"rt run {name} ended with status {done.returncode}")

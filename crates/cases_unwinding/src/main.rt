@@ -5,14 +5,17 @@
 //! - `lint`: files, a line each, and what `backtrace --lint` finds in each. `scripts/lint-files` writes them.
 //! - `documents`: documents with what a run of each has to write, a line each. A line is printed for each mismatch, and last how many
 //!   rows there were and how many mismatches.
+//! - `walks_x86_64` and other names of benches: what [`benches`] says, of the input of a bench.
 #![tactic(auto)]
 
+mod benches;
 mod documents;
 mod lint;
 mod row;
 mod tables;
 
 use anyhow::{Result, bail};
+use benches::show_bench;
 use documents::show_documents;
 use lint::show_findings;
 use std::{env, fs};
@@ -20,12 +23,12 @@ use tables::show_tables;
 
 // Shows the cases of a kind.
 fn show(rt: &HostRuntime, kind: &str, path: &str) -> Result<()> {
-    let text = fs::read_to_string(rt, path)?;
+    let input = fs::read(rt, path)?;
     match kind {
-        "tables" => show_tables(rt, text.as_str()),
-        "lint" => show_findings(rt, text.as_str()),
-        "documents" => show_documents(rt, text.as_str()),
-        _ => bail!("a kind is tables, lint or documents"),
+        "tables" => show_tables(rt, str::from_utf8(&input)?),
+        "lint" => show_findings(rt, str::from_utf8(&input)?),
+        "documents" => show_documents(rt, str::from_utf8(&input)?),
+        _ => show_bench(rt, kind, &input),
     }
 }
 

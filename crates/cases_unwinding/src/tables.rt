@@ -6,9 +6,8 @@ mod frames;
 mod roads;
 
 use anyhow::Result;
+use arch::{Aarch64, X86_64};
 use case::Case;
-use framehop::aarch64::ArchAarch64;
-use framehop::x86_64::ArchX86_64;
 use roads::show_steps;
 
 /// Compares the steps for each line, which is as [`Case::parse`] reads it. Prints how many steps were made, how many of them gave a caller,
@@ -17,9 +16,9 @@ pub(crate) fn show_tables(rt: &HostRuntime, lines: &str) -> Result<()> {
     for line in lines.lines() {
         let case = Case::parse(rt.alloc(), line)?;
         let shown = if case.is_aarch64 {
-            show_steps::<ArchAarch64>(rt.alloc(), &case)?
+            show_steps::<Aarch64>(rt.alloc(), &case)?
         } else {
-            show_steps::<ArchX86_64>(rt.alloc(), &case)?
+            show_steps::<X86_64>(rt.alloc(), &case)?
         };
         print!(rt; "{shown}")?;
     }

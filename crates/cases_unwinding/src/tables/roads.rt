@@ -1,34 +1,30 @@
 //! The modules that steps are compared in, and the steps.
 
-use crate::tables::arch::ComparedArch;
+use crate::tables::arch::{ComparedData, ComparedRegs};
 use crate::tables::case::Case;
 use crate::tables::frames::{BASE, Frame, word_at};
 use anyhow::{Result, bail};
 use framehop::{
-    Arch, BySections, Cache, DwarfUnwindContext, Error, ExplicitModuleSectionInfo, FdeLookup,
-    Generations, LoadOptions, MayAllocateDuringUnwind, Module, TableArch, Unwinder,
-    UnwinderInternal, load_module,
+    Arch, Cache, Error, ExplicitModuleSectionInfo, FdeLookup, Generations, LoadOptions, Module,
+    ModuleUnwinding, TableArch, Unwinder, UnwinderInternal, load_module,
 };
 use std::alloc::Global;
 
-/// An unwinder of an architecture.
-type Compared<A> = UnwinderInternal<BySections<A, Vec<u8>, MayAllocateDuringUnwind>>;
-
-/// What its steps keep and reuse.
-type ComparedCache<A> = Cache<<A as Arch>::UnwindRule, DwarfUnwindContext<MayAllocateDuringUnwind>>;
+/// What steps keep and reuse.
+type ComparedCache<A> = Cache<<A as Arch>::UnwindRule, <A as ModuleUnwinding>::UnwindContext>;
 
 /// What a step gives: the return address or why there is none, and the registers that it leaves.
 type Stepped = (std::result::Result<Option<u64>, Error>, (u64, u64, u64));
 
 /// An unwinder for each way to find the FDE of an address.
 #[derive(Drop)]
-struct Roads<A: ComparedArch> {
-    table: Compared<A>,
+struct Roads<A: ModuleUnwinding> {
+    table: UnwinderInternal<A>,
     /// At how many addresses the table says something else than at the address before, if there is one.
     table_size: Option<usize>,
-    index: Compared<A>,
-    header: Compared<A>,
-    scan: Compared<A>,
+    index: UnwinderInternal<A>,
+    header: UnwinderInternal<A>,
+    scan: UnwinderInternal<A>,
 }
 
 // The sections of a case.
@@ -53,11 +49,11 @@ fn sections_of(alloc: Global, case: &Case) -> Result<ExplicitModuleSectionInfo<V
 }
 
 // An unwinder of one module.
-fn unwinder_of<A: ComparedArch>(
+fn unwinder_of<A: ModuleUnwinding<UnwindData = ComparedData>>(
     alloc: Global,
     generations: &mut Generations,
     module: Module<Vec<u8>>,
-) -> Result<Compared<A>> {
+) -> Result<UnwinderInternal<A>> {
     let mut unwinder = UnwinderInternal::new(alloc, generations)?;
     if unwinder.add_module(generations, module).is_err() {
         bail!("the module was not loaded");
@@ -82,11 +78,15 @@ fn module_of(
     Ok(load_module(alloc, name, BASE..u64::MAX, BASE, sections, options)?)
 }
 
-impl<A: ComparedArch> Roads<A> {
+impl<A: ModuleUnwinding<UnwindData = ComparedData>> Roads<A>
+where
+    A::UnwindRegs: ComparedRegs,
+{
     // The unwinders of a case.
     fn new(alloc: Global, case: &Case) -> Result<Self> {
         let mut generations = Generations::new();
-        let table = module_of(alloc, case, FdeLookup::Auto, Some(A::table_arch()))?;
+        let tables = Some(A::UnwindRegs::table_arch());
+        let table = module_of(alloc, case, FdeLookup::Auto, tables)?;
         let index = module_of(alloc, case, FdeLookup::Index, None)?;
         let header = module_of(alloc, case, FdeLookup::Auto, None)?;
         let scan = module_of(alloc, case, FdeLookup::Scan, None)?;
@@ -101,15 +101,18 @@ impl<A: ComparedArch> Roads<A> {
 }
 
 // A step from a frame.
-fn step<A: ComparedArch>(
-    unwinder: &Compared<A>,
+fn step<A: ModuleUnwinding>(
+    unwinder: &UnwinderInternal<A>,
     cache: &mut ComparedCache<A>,
     frame: Frame,
-) -> Stepped {
-    let mut regs = A::registers(frame.numbers);
+) -> Stepped
+where
+    A::UnwindRegs: ComparedRegs,
+{
+    let mut regs = A::UnwindRegs::of(frame.numbers);
     let mut read_stack = |at: u64| -> std::result::Result<u64, ()> { word_at(at) };
     let result = unwinder.unwind_frame(frame.address, &mut regs, cache, &mut read_stack);
-    (result, A::numbers(regs))
+    (result, regs.numbers())
 }
 
 /// What was counted.
@@ -147,14 +150,17 @@ impl Tally {
 }
 
 // Compares steps from a frame: by the table and by the index, and by the two others if `in_all`.
-fn compare<A: ComparedArch>(
+fn compare<A: ModuleUnwinding>(
     roads: &Roads<A>,
     cache: &mut ComparedCache<A>,
     frame: Frame,
     in_all: bool,
     tally: &mut Tally,
     shown: &mut String,
-) -> Result<()> {
+) -> Result<()>
+where
+    A::UnwindRegs: ComparedRegs,
+{
     let by_index = step::<A>(&roads.index, cache, frame);
     let by_table = step::<A>(&roads.table, cache, frame);
     tally.count(shown, "table", frame, by_table, by_index)?;
@@ -168,14 +174,17 @@ fn compare<A: ComparedArch>(
 }
 
 // Compares steps from a first and a later frame at each address.
-fn compare_all<A: ComparedArch>(
+fn compare_all<A: ModuleUnwinding>(
     roads: &Roads<A>,
     cache: &mut ComparedCache<A>,
     addresses: &[u32],
     in_all: bool,
     tally: &mut Tally,
     shown: &mut String,
-) -> Result<()> {
+) -> Result<()>
+where
+    A::UnwindRegs: ComparedRegs,
+{
     for at in addresses {
         compare::<A>(roads, cache, Frame::new(true, *at)?, in_all, tally, shown)?;
         compare::<A>(roads, cache, Frame::new(false, *at)?, in_all, tally, shown)?;
@@ -184,9 +193,15 @@ fn compare_all<A: ComparedArch>(
 }
 
 /// Compares the steps of a case, through one cache, and shows what was counted, each difference, and how large the table is.
-pub fn show_steps<A: ComparedArch>(alloc: Global, case: &Case) -> Result<String> {
+pub fn show_steps<A: ModuleUnwinding<UnwindData = ComparedData>>(
+    alloc: Global,
+    case: &Case,
+) -> Result<String>
+where
+    A::UnwindRegs: ComparedRegs,
+{
     let roads: Roads<A> = Roads::new(alloc, case)?;
-    let mut cache: ComparedCache<A> = Cache::new(alloc, DwarfUnwindContext::new(alloc)?)?;
+    let mut cache: ComparedCache<A> = Cache::new(alloc, A::unwind_context(alloc)?)?;
     let mut shown = String::new(alloc);
     let mut tally = Tally {
         steps: 0,
