@@ -1,4 +1,4 @@
-"""Lines for the program `cases_frames`, and what it shows of sections and of bytes that are damaged."""
+"""Lines for the program `cases_dwarf`, and what it shows of sections and of bytes that are damaged."""
 
 from lib.frame_entries import ReadError, cie_text, fde_text
 from lib.frame_rows import rows_of

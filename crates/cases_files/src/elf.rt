@@ -6,7 +6,7 @@ use crate::sections::{show_build_id, show_sections};
 use crate::segments::show_segments;
 use anyhow::Result;
 use elf_files::{ElfFile, FileKind, Machine};
-use std::io::Read;
+use shown_text::Shown;
 
 fn machine_name(machine: Machine) -> &'static str {
     match machine {
@@ -25,23 +25,22 @@ fn kind_number(kind: FileKind) -> u16 {
     }
 }
 
-fn show_header(rt: &HostRuntime, file: &ElfFile<'_>) -> Result<()> {
-    let machine = machine_name(file.machine());
-    let kind = kind_number(file.kind());
-    println!(rt; "file {machine} kind {kind} entry {:#x}", file.entry())?;
-    Ok(())
+fn show_header(file: &ElfFile<'_>, shown: &mut Shown) {
+    shown.text("file ");
+    shown.text(machine_name(file.machine()));
+    shown.number(" kind ", u64::from(kind_number(file.kind())));
+    shown.hex(" entry 0x", file.entry());
+    shown.end();
 }
 
 /// Shows the header of a file, its segments, its sections and their notes, its build id, its section of call frames, and the function
-/// at each address of the input.
-pub(crate) fn show_elf(rt: &HostRuntime, bytes: &[u8]) -> Result<()> {
-    let mut input = Vec::new(rt.alloc());
-    rt.reader().read_to_end(&mut input)?;
+/// at each of some addresses.
+pub(crate) fn show_elf(bytes: &[u8], addresses: &str, shown: &mut Shown) -> Result<()> {
     let file = ElfFile::parse(bytes)?;
-    show_header(rt, &file)?;
-    show_segments(rt, &file)?;
-    show_sections(rt, &file)?;
-    show_build_id(rt, &file)?;
-    show_frames(rt, bytes)?;
-    show_functions(rt, &file, str::from_utf8(&input)?)
+    show_header(&file, shown);
+    show_segments(&file, shown)?;
+    show_sections(&file, shown)?;
+    show_build_id(&file, shown)?;
+    show_frames(bytes, shown);
+    show_functions(&file, addresses, shown)
 }

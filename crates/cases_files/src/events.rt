@@ -1,19 +1,21 @@
 //! Events and features.
 
-use crate::text::{bytes_of, show_name};
+use crate::text::{bytes_of, show_digits, show_display, show_name};
 use anyhow::Result;
 use perf_files::{
-    AttributeEntry, Attributes, Event, FieldError, FileBuildId, FileHeader, RecordKind, Section,
-    Words, architecture_in, record_at,
+    Architecture, AttributeEntry, Attributes, Event, FieldError, FileBuildId, FileHeader,
+    RecordKind, Section, Words, architecture_in, record_at,
 };
+use shown_text::Shown;
+use std::alloc::{AllocError, Global};
 
 const BUILD_IDS: u32 = 2;
 
 const ARCHITECTURE: u32 = 6;
 
 // The ids in some bytes.
-fn ids_of(rt: &HostRuntime, words: &Words<'_>) -> Result<Vec<u64>> {
-    let mut ids = Vec::new(rt.alloc());
+fn ids_of(alloc: Global, words: &Words<'_>) -> Result<Vec<u64>, AllocError> {
+    let mut ids = Vec::new(alloc);
     for index in 0..words.len() {
         if let Some(id) = words.get(index) {
             ids.push(id)?;
@@ -22,18 +24,30 @@ fn ids_of(rt: &HostRuntime, words: &Words<'_>) -> Result<Vec<u64>> {
     Ok(ids)
 }
 
-fn show_refused(rt: &HostRuntime, index: u64, error: FieldError) -> Result<()> {
-    println!(rt; "event {index}: {error}")?;
-    Ok(())
+fn show_refused(index: u64, error: FieldError, shown: &mut Shown) {
+    shown.number("event ", index);
+    show_display(": ", &error, shown);
+    shown.end();
+}
+
+// An event with its ids.
+fn event_with(
+    alloc: Global,
+    attributes: Attributes,
+    words: &Words<'_>,
+) -> Result<Event, AllocError> {
+    let ids = ids_of(alloc, words)?;
+    Ok(Event { attributes, ids })
 }
 
 /// The events of a file; those that can't be read are shown and left out.
 pub(crate) fn file_events(
-    rt: &HostRuntime,
     bytes: &[u8],
     header: &FileHeader,
+    shown: &mut Shown,
 ) -> Result<Vec<Event>> {
-    let mut events = Vec::new(rt.alloc());
+    let alloc = shown.alloc();
+    let mut events = Vec::new(alloc);
     if header.attribute_size == 0 {
         return Ok(events);
     }
@@ -48,21 +62,18 @@ pub(crate) fn file_events(
         match AttributeEntry::parse(entry) {
             Ok(entry) => {
                 let words = Words::new(bytes_of(bytes, entry.ids.offset, entry.ids.size));
-                let ids = ids_of(rt, &words)?;
-                events.push(Event {
-                    attributes: entry.attributes,
-                    ids,
-                })?;
+                events.push(event_with(alloc, entry.attributes, &words)?)?;
             }
-            Err(error) => show_refused(rt, index, error)?,
+            Err(error) => show_refused(index, error, shown),
         }
     }
     Ok(events)
 }
 
 /// The events of a pipe, likewise.
-pub(crate) fn pipe_events(rt: &HostRuntime, bytes: &[u8], data: Section) -> Result<Vec<Event>> {
-    let mut events = Vec::new(rt.alloc());
+pub(crate) fn pipe_events(bytes: &[u8], data: Section, shown: &mut Shown) -> Result<Vec<Event>> {
+    let alloc = shown.alloc();
+    let mut events = Vec::new(alloc);
     let mut at = data.offset;
     for _ in 0..u64::MAX {
         let Ok(Some((record, size))) = record_at(bytes_of(bytes, at, u64::MAX), at) else {
@@ -70,11 +81,8 @@ pub(crate) fn pipe_events(rt: &HostRuntime, bytes: &[u8], data: Section) -> Resu
         };
         if let RecordKind::Attributes = record.kind {
             match Attributes::parse_with_ids(record.payload) {
-                Ok((attributes, words)) => {
-                    let ids = ids_of(rt, &words)?;
-                    events.push(Event { attributes, ids })?;
-                }
-                Err(error) => show_refused(rt, at, error)?,
+                Ok((attributes, words)) => events.push(event_with(alloc, attributes, &words)?)?,
+                Err(error) => show_refused(at, error, shown),
             }
         }
         at = at.saturating_add(size);
@@ -82,40 +90,34 @@ pub(crate) fn pipe_events(rt: &HostRuntime, bytes: &[u8], data: Section) -> Resu
     Ok(events)
 }
 
-fn show_event(rt: &HostRuntime, index: usize, event: &Event) -> Result<()> {
+fn show_event(index: usize, event: &Event, shown: &mut Shown) {
     let it = event.attributes;
-    print!(rt;
-        "event {index} kind {} config {:#x} period {}",
-        it.kind, it.config, it.period
-    )?;
-    print!(rt;
-        " fields {:#x} reads {:#x} flags {:#x}",
-        it.sample_type, it.read_format, it.flags
-    )?;
-    print!(rt;
-        " branches {:#x} registers {:#x}",
-        it.branch_sample_type, it.user_registers
-    )?;
-    print!(rt;
-        " stack {} interrupted {:#x} ids",
-        it.user_stack, it.interrupt_registers
-    )?;
+    shown.number("event ", index as u64);
+    shown.number(" kind ", u64::from(it.kind));
+    shown.hex(" config 0x", it.config);
+    shown.number(" period ", it.period);
+    shown.hex(" fields 0x", it.sample_type);
+    shown.hex(" reads 0x", it.read_format);
+    shown.hex(" flags 0x", it.flags);
+    shown.hex(" branches 0x", it.branch_sample_type);
+    shown.hex(" registers 0x", it.user_registers);
+    shown.number(" stack ", u64::from(it.user_stack));
+    shown.hex(" interrupted 0x", it.interrupt_registers);
+    shown.text(" ids");
     for id in event.ids.as_slice() {
-        print!(rt; " {id}")?;
+        shown.number(" ", *id);
     }
-    println!(rt; "")?;
-    Ok(())
+    shown.end();
 }
 
 /// Shows events.
-pub(crate) fn show_events(rt: &HostRuntime, events: &Vec<Event>) -> Result<()> {
+pub(crate) fn show_events(events: &Vec<Event>, shown: &mut Shown) {
     for (index, event) in events.iter().enumerate() {
-        show_event(rt, index, event)?;
+        show_event(index, event, shown);
     }
-    Ok(())
 }
 
-fn show_build_ids(rt: &HostRuntime, feature: &[u8]) -> Result<()> {
+fn show_build_ids(feature: &[u8], shown: &mut Shown) {
     let mut at = 0;
     for _ in 0..u64::MAX {
         let Ok(Some((record, size))) = record_at(bytes_of(feature, at, u64::MAX), at) else {
@@ -123,34 +125,49 @@ fn show_build_ids(rt: &HostRuntime, feature: &[u8]) -> Result<()> {
         };
         match FileBuildId::parse(&record) {
             Ok(found) => {
-                let digits = hex::encode(rt.alloc(), found.build_id)?;
-                print!(rt; "build id {digits}")?;
-                show_name(rt, found.name)?;
-                println!(rt; "")?;
+                show_digits("build id ", found.build_id, shown);
+                show_name(found.name, shown);
             }
-            Err(error) => println!(rt; "build id: {error}")?,
+            Err(error) => show_display("build id: ", &error, shown),
         }
+        shown.end();
         at = at.saturating_add(size);
     }
-    Ok(())
+}
+
+fn machine_name(machine: Architecture) -> &'static str {
+    match machine {
+        Architecture::X86_64 => "X86_64",
+        Architecture::Aarch64 => "Aarch64",
+    }
+}
+
+fn show_machine(feature: &[u8], shown: &mut Shown) {
+    match architecture_in(feature) {
+        Ok(machine) => {
+            shown.text("machine ");
+            shown.text(machine_name(machine));
+        }
+        Err(refusal) => show_display("machine: ", &refusal, shown),
+    }
+    shown.end();
 }
 
 /// Shows the features of a file that are read.
-pub(crate) fn show_features(rt: &HostRuntime, bytes: &[u8], header: &FileHeader) -> Result<()> {
+pub(crate) fn show_features(bytes: &[u8], header: &FileHeader, shown: &mut Shown) {
     let Some(place) = header.feature_table() else {
-        return Ok(());
+        return;
     };
     let table = bytes_of(bytes, place.offset, place.size);
     match header.feature_in(table, ARCHITECTURE) {
-        Ok(Some(place)) => match architecture_in(bytes_of(bytes, place.offset, place.size)) {
-            Ok(machine) => println!(rt; "machine {machine:?}")?,
-            Err(refusal) => println!(rt; "machine: {refusal}")?,
-        },
+        Ok(Some(place)) => show_machine(bytes_of(bytes, place.offset, place.size), shown),
         Ok(None) => {}
-        Err(error) => println!(rt; "features: {error}")?,
+        Err(error) => {
+            show_display("features: ", &error, shown);
+            shown.end();
+        }
     }
     if let Ok(Some(place)) = header.feature_in(table, BUILD_IDS) {
-        show_build_ids(rt, bytes_of(bytes, place.offset, place.size))?;
+        show_build_ids(bytes_of(bytes, place.offset, place.size), shown);
     }
-    Ok(())
 }

@@ -1,31 +1,37 @@
 //! The section of call frames.
 
-use anyhow::Result;
+use crate::text::show_display;
 use frame_table_files::{FileSection, section_of_file};
+use shown_text::Shown;
 
-fn show_base(rt: &HostRuntime, name: &str, base: Option<u64>) -> Result<()> {
+fn show_base(name: &str, base: Option<u64>, shown: &mut Shown) {
     match base {
-        Some(address) => print!(rt; " {name} {address:#x}")?,
-        None => print!(rt; " no {name}")?,
+        Some(address) => {
+            shown.text(" ");
+            shown.text(name);
+            shown.hex(" 0x", address);
+        }
+        None => {
+            shown.text(" no ");
+            shown.text(name);
+        }
     }
-    Ok(())
 }
 
-fn show_section(rt: &HostRuntime, section: &FileSection<'_>) -> Result<()> {
-    let size = section.bytes.len();
-    print!(rt; "frames {} size {size:#x}", section.name)?;
-    show_base(rt, "section", section.bases.eh_frame.section)?;
-    show_base(rt, "text", section.bases.eh_frame.text)?;
-    show_base(rt, "got", section.bases.eh_frame.data_base)?;
-    println!(rt; "")?;
-    Ok(())
+fn show_section(section: &FileSection<'_>, shown: &mut Shown) {
+    shown.text("frames ");
+    show_display("", &section.name, shown);
+    shown.hex(" size 0x", section.bytes.len() as u64);
+    show_base("section", section.bases.eh_frame.section, shown);
+    show_base("text", section.bases.eh_frame.text, shown);
+    show_base("got", section.bases.eh_frame.data_base, shown);
 }
 
 /// Shows which section of call frames of a file is listed, and what its pointers are relative to.
-pub(crate) fn show_frames(rt: &HostRuntime, bytes: &[u8]) -> Result<()> {
+pub(crate) fn show_frames(bytes: &[u8], shown: &mut Shown) {
     match section_of_file(bytes, None) {
-        Ok(section) => show_section(rt, &section)?,
-        Err(refusal) => println!(rt; "frames: {refusal}")?,
+        Ok(section) => show_section(&section, shown),
+        Err(refusal) => show_display("frames: ", &refusal, shown),
     }
-    Ok(())
+    shown.end();
 }

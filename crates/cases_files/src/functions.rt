@@ -2,30 +2,26 @@
 
 use anyhow::Result;
 use elf_files::{ElfFile, Symbol};
+use shown_text::Shown;
 
-fn show_function(rt: &HostRuntime, address: u64, function: &Symbol<'_>) -> Result<()> {
-    let name = str::from_utf8(function.name)?;
-    let start = function.value;
-    let size = function.size;
-    let section = function.section_index;
-    println!(rt; "at {address:#x} function {name} start {start:#x} size {size} section {section}")?;
-    Ok(())
-}
-
-fn show_at(rt: &HostRuntime, file: &ElfFile<'_>, address: u64) -> Result<()> {
-    match file.symbol_for_address(address)? {
-        Some(function) => show_function(rt, address, &function),
-        None => {
-            println!(rt; "at {address:#x} none")?;
-            Ok(())
-        }
-    }
+fn show_function(function: &Symbol<'_>, shown: &mut Shown) {
+    shown.text(" function ");
+    shown.bytes(function.name);
+    shown.hex(" start 0x", function.value);
+    shown.number(" size ", function.size);
+    shown.number(" section ", u64::from(function.section_index));
 }
 
 /// Shows the function at each address of a text, which has one in hexadecimal digits on each line.
-pub(crate) fn show_functions(rt: &HostRuntime, file: &ElfFile<'_>, addresses: &str) -> Result<()> {
+pub(crate) fn show_functions(file: &ElfFile<'_>, addresses: &str, shown: &mut Shown) -> Result<()> {
     for line in addresses.lines() {
-        show_at(rt, file, u64::from_str_radix(line, 16)?)?;
+        let address = u64::from_str_radix(line, 16)?;
+        shown.hex("at 0x", address);
+        match file.symbol_for_address(address)? {
+            Some(function) => show_function(&function, shown),
+            None => shown.text(" none"),
+        }
+        shown.end();
     }
     Ok(())
 }

@@ -1,18 +1,19 @@
 //! Links to debug files.
 
-use anyhow::Result;
 use debug_links::{checksum_of, debug_link_of};
+use shown_text::Shown;
 
 /// Shows the link of a file to its debug file, and the checksum of its bytes.
-pub(crate) fn show_link(rt: &HostRuntime, bytes: &[u8]) -> Result<()> {
+pub(crate) fn show_link(bytes: &[u8], shown: &mut Shown) {
     match debug_link_of(bytes) {
         Some(link) => {
-            let name = str::from_utf8(link.name)?;
-            println!(rt; "link {name} checksum {:#x}", link.checksum)?;
+            shown.text("link ");
+            shown.bytes(link.name);
+            shown.hex(" checksum 0x", u64::from(link.checksum));
         }
-        None => println!(rt; "no link")?,
+        None => shown.text("no link"),
     }
-    let checksum = checksum_of(bytes);
-    println!(rt; "checksum {checksum:#x}")?;
-    Ok(())
+    shown.end();
+    shown.hex("checksum 0x", u64::from(checksum_of(bytes)));
+    shown.end();
 }

@@ -29,31 +29,43 @@ use flame_graph::Direction;
 use links::show_link;
 use names::show_names;
 use recording::show_recording;
+use shown_text::Shown;
 use stacks::{show_picture, show_stacks};
-use std::{env, fs};
+use std::io::{Read, Write};
+use std::{env, fs, io};
 
 // Shows a file of a kind.
-fn show(rt: &HostRuntime, kind: &str, path: &str) -> Result<()> {
+fn show(rt: &HostRuntime, kind: &str, path: &str, shown: &mut Shown) -> Result<()> {
     let bytes = fs::read(rt, path)?;
     match kind {
-        "elf" => show_elf(rt, &bytes),
-        "link" => show_link(rt, &bytes),
-        "recording" => show_recording(rt, &bytes),
-        "names" => show_names(rt, &bytes),
-        "stacks" => show_stacks(rt, &bytes),
-        "flame" => show_picture(rt, &bytes, Direction::Flame),
-        "icicle" => show_picture(rt, &bytes, Direction::Icicle),
+        "elf" => {
+            let mut input = Vec::new(rt.alloc());
+            rt.reader().read_to_end(&mut input)?;
+            show_elf(&bytes, str::from_utf8(&input)?, shown)
+        }
+        "link" => {
+            show_link(&bytes, shown);
+            Ok(())
+        }
+        "recording" => show_recording(&bytes, shown),
+        "names" => show_names(str::from_utf8(&bytes)?, shown),
+        "stacks" => show_stacks(str::from_utf8(&bytes)?, shown),
+        "flame" => show_picture(str::from_utf8(&bytes)?, Direction::Flame, shown),
+        "icicle" => show_picture(str::from_utf8(&bytes)?, Direction::Icicle, shown),
         _ => bail!("a kind is elf, link, recording, names, stacks, flame or icicle"),
     }
 }
 
 fn main(rt: HostRuntime) -> Result<()> {
     let words: Vec<String> = env::args(&rt)?.skip(1).collect(rt.alloc())?;
+    let mut shown = Shown::new(rt.alloc());
     for pair in words.chunks(2) {
         match pair {
-            [kind, path] => show(&rt, kind, path)?,
+            [kind, path] => show(&rt, kind, path, &mut shown)?,
             _ => bail!("each kind has a file"),
         }
     }
+    let text = shown.finish()?;
+    io::writer(&rt).write_all(&text)?;
     Ok(())
 }

@@ -6,9 +6,16 @@ use crate::text::{bytes_of, show_name};
 use anyhow::Result;
 use perf_files::{
     Attributes, Command, Event, Mapping, Record, RecordKind, RecordPlace, Sample, Section, Task,
-    event_of, record_at, sort_by_time, time_of,
+    ThreadId, event_of, record_at, sort_by_time, time_of,
 };
 use perf_processes::{Change, MappedFile, Processes, ThreadName};
+use shown_text::Shown;
+use std::alloc::Global;
+
+// The text with a number.
+fn text_at<'a>(texts: &Vec<&'a [u8]>, number: u32) -> &'a [u8] {
+    texts.get(number as usize).copied().unwrap_or(b"?")
+}
 
 // The processes so far, with the names of files and of threads.
 #[derive(Drop)]
@@ -68,44 +75,50 @@ impl<'a> Seen<'a> {
         }
     }
 
+    // Shows the name of a thread.
+    fn show_thread(&self, thread: ThreadId, shown: &mut Shown) {
+        match self.processes.name_of(thread) {
+            Some(name) => show_name(text_at(&self.names, name), shown),
+            None => shown.text(" -"),
+        }
+    }
+
+    // Shows what a process has mapped at an address.
+    fn show_place(&self, pid: u32, address: u64, shown: &mut Shown) {
+        match self.processes.mapping_at(pid, address) {
+            Some(it) => {
+                show_name(text_at(&self.files, it.file), shown);
+                let offset = address.wrapping_sub(it.address).wrapping_add(it.offset);
+                shown.hex(" 0x", offset);
+            }
+            None => shown.hex(" - 0x", address),
+        }
+    }
+
     // Shows where a sample was taken.
-    fn show_sample(&self, rt: &HostRuntime, offset: u64, sample: &Sample<'_>) -> Result<()> {
+    fn show_sample(&self, offset: u64, sample: &Sample<'_>, shown: &mut Shown) {
         let Some(thread) = sample.head.thread else {
-            return Ok(());
+            return;
         };
         let Some(start) = start_of(&sample.user_registers) else {
-            return Ok(());
+            return;
         };
-        print!(rt; "in {offset:#x}")?;
-        match self.processes.name_of(thread) {
-            Some(name) => show_name(rt, self.names.get(name as usize).copied().unwrap_or(b"?"))?,
-            None => print!(rt; " -")?,
-        }
-        let address = start.instruction_pointer;
-        match self.processes.mapping_at(thread.pid, address) {
-            Some(it) => {
-                show_name(
-                    rt,
-                    self.files.get(it.file as usize).copied().unwrap_or(b"?"),
-                )?;
-                let offset = address.wrapping_sub(it.address).wrapping_add(it.offset);
-                println!(rt; " {offset:#x}")?;
-            }
-            None => println!(rt; " - {address:#x}")?,
-        }
-        Ok(())
+        shown.hex("in 0x", offset);
+        self.show_thread(thread, shown);
+        self.show_place(thread.pid, start.instruction_pointer, shown);
+        shown.end();
     }
 }
 
 // The places of the records, in the order of time.
 fn places(
-    rt: &HostRuntime,
+    alloc: Global,
     bytes: &[u8],
     data: Section,
     events: &Vec<Event>,
 ) -> Result<Vec<RecordPlace>> {
     let end = data.offset.saturating_add(data.size);
-    let mut found = Vec::new(rt.alloc());
+    let mut found = Vec::new(alloc);
     let mut at = data.offset;
     for _ in 0..u64::MAX {
         let Ok(Some((record, size))) = record_at(bytes_of(bytes, at, end.saturating_sub(at)), at)
@@ -131,16 +144,17 @@ fn places(
 
 /// Shows where each sample was taken, in the order of time.
 pub(crate) fn show_mapped(
-    rt: &HostRuntime,
     bytes: &[u8],
     data: Section,
     events: &Vec<Event>,
+    shown: &mut Shown,
 ) -> Result<()> {
-    let order = places(rt, bytes, data, events)?;
+    let alloc = shown.alloc();
+    let order = places(alloc, bytes, data, events)?;
     let mut seen = Seen {
-        processes: Processes::new(rt.alloc()),
-        files: Vec::new(rt.alloc()),
-        names: Vec::new(rt.alloc()),
+        processes: Processes::new(alloc),
+        files: Vec::new(alloc),
+        names: Vec::new(alloc),
     };
     for place in order.as_slice() {
         let Ok(Some((record, _size))) = record_at(
@@ -157,7 +171,7 @@ pub(crate) fn show_mapped(
         };
         if let RecordKind::Sample = record.kind {
             if let Ok(sample) = Sample::parse(record.payload, &event.attributes) {
-                seen.show_sample(rt, place.offset, &sample)?;
+                seen.show_sample(place.offset, &sample, shown);
             }
         } else if let Some(change) = seen.change_of(&record, &event.attributes)? {
             seen.processes.apply(change)?;

@@ -1,103 +1,59 @@
 //! Records.
 
 use crate::samples::show_sample;
-use crate::text::{bytes_of, show_name};
-use anyhow::Result;
+use crate::text::{bytes_of, show_digits, show_display, show_name, show_thread};
 use perf_files::{
     Attributes, Command, Event, FieldError, Mapping, Record, RecordKind, Sample, Section, Task,
     event_of, lost_of, record_at,
 };
+use shown_text::Shown;
 
-fn show_mapping(
-    rt: &HostRuntime,
-    record: &Record<'_>,
-    attributes: &Attributes,
-) -> Result<Option<FieldError>> {
-    match Mapping::parse(record, attributes) {
-        Ok(it) => {
-            let kind = if it.executable { "code" } else { "data" };
-            let digits = hex::encode(rt.alloc(), it.build_id)?;
-            print!(rt;
-                "mapping {}/{} {:#x}",
-                it.thread.pid, it.thread.tid, it.address
-            )?;
-            print!(rt; " {:#x} {:#x} {kind} id {digits}", it.size, it.offset)?;
-            show_name(rt, it.name)?;
-            Ok(None)
-        }
-        Err(error) => Ok(Some(error)),
-    }
+fn show_mapping(it: &Mapping<'_>, shown: &mut Shown) {
+    show_thread("mapping ", it.thread, shown);
+    shown.hex(" 0x", it.address);
+    shown.hex(" 0x", it.size);
+    shown.hex(" 0x", it.offset);
+    shown.text(if it.executable { " code" } else { " data" });
+    show_digits(" id ", it.build_id, shown);
+    show_name(it.name, shown);
 }
 
-fn show_command(
-    rt: &HostRuntime,
-    record: &Record<'_>,
-    attributes: &Attributes,
-) -> Result<Option<FieldError>> {
-    match Command::parse(record, attributes) {
-        Ok(it) => {
-            let kind = if it.exec { "exec" } else { "name" };
-            print!(rt; "command {}/{} {kind}", it.thread.pid, it.thread.tid)?;
-            show_name(rt, it.name)?;
-            Ok(None)
-        }
-        Err(error) => Ok(Some(error)),
-    }
+fn show_command(it: &Command<'_>, shown: &mut Shown) {
+    show_thread("command ", it.thread, shown);
+    shown.text(if it.exec { " exec" } else { " name" });
+    show_name(it.name, shown);
 }
 
-fn show_task(
-    rt: &HostRuntime,
-    record: &Record<'_>,
-    attributes: &Attributes,
-) -> Result<Option<FieldError>> {
-    match Task::parse(record, attributes) {
-        Ok(it) => {
-            let kind = if matches!(record.kind, RecordKind::Fork) {
-                "fork"
-            } else {
-                "exit"
-            };
-            print!(rt; "{kind} {}/{}", it.pid, it.tid)?;
-            print!(rt;
-                " of {}/{} time {:#x}",
-                it.parent_pid, it.parent_tid, it.time
-            )?;
-            Ok(None)
-        }
-        Err(error) => Ok(Some(error)),
-    }
+fn show_task(name: &str, it: &Task, shown: &mut Shown) {
+    shown.text(name);
+    shown.number(" ", u64::from(it.pid));
+    shown.number("/", u64::from(it.tid));
+    shown.number(" of ", u64::from(it.parent_pid));
+    shown.number("/", u64::from(it.parent_tid));
+    shown.hex(" time 0x", it.time);
 }
 
-fn show_lost(rt: &HostRuntime, record: &Record<'_>) -> Result<Option<FieldError>> {
-    match lost_of(record) {
-        Ok(count) => {
-            print!(rt; "lost {count}")?;
-            Ok(None)
-        }
-        Err(error) => Ok(Some(error)),
-    }
-}
-
+// Shows the fields of a record, or returns why they can't be read.
 fn show_fields(
-    rt: &HostRuntime,
     record: &Record<'_>,
     event: usize,
     attributes: &Attributes,
-) -> Result<Option<FieldError>> {
+    shown: &mut Shown,
+) -> Result<(), FieldError> {
     match record.kind {
-        RecordKind::Mapping | RecordKind::Mapping2 => show_mapping(rt, record, attributes),
-        RecordKind::Command => show_command(rt, record, attributes),
-        RecordKind::Fork | RecordKind::Exit => show_task(rt, record, attributes),
-        RecordKind::Lost | RecordKind::LostSamples => show_lost(rt, record),
-        RecordKind::Sample => match Sample::parse(record.payload, attributes) {
-            Ok(sample) => {
-                show_sample(rt, event, &sample)?;
-                Ok(None)
-            }
-            Err(error) => Ok(Some(error)),
-        },
-        _ => Ok(None),
+        RecordKind::Mapping | RecordKind::Mapping2 => {
+            show_mapping(&Mapping::parse(record, attributes)?, shown);
+        }
+        RecordKind::Command => show_command(&Command::parse(record, attributes)?, shown),
+        RecordKind::Fork => show_task("fork", &Task::parse(record, attributes)?, shown),
+        RecordKind::Exit => show_task("exit", &Task::parse(record, attributes)?, shown),
+        RecordKind::Lost | RecordKind::LostSamples => shown.number("lost ", lost_of(record)?),
+        RecordKind::Sample => {
+            show_sample(event, &Sample::parse(record.payload, attributes)?, shown);
+        }
+        _ => {}
     }
+    Ok(())
 }
 
 /// Whether a record is of those that are shown.
@@ -115,50 +71,41 @@ pub(crate) fn is_shown(kind: RecordKind) -> bool {
     )
 }
 
-fn show_record(rt: &HostRuntime, record: &Record<'_>, events: &Vec<Event>) -> Result<()> {
+fn show_record(record: &Record<'_>, events: &Vec<Event>, shown: &mut Shown) {
     if !is_shown(record.kind) {
-        return Ok(());
+        return;
     }
-    print!(rt; "{:#x} ", record.offset)?;
+    shown.hex("0x", record.offset);
+    shown.text(" ");
     match event_of(events.as_slice(), record) {
         Ok(index) => {
             if let Some(event) = events.get(index) {
-                if let Some(error) = show_fields(rt, record, index, &event.attributes)? {
-                    print!(rt; "{error}")?;
+                if let Err(error) = show_fields(record, index, &event.attributes, shown) {
+                    show_display("", &error, shown);
                 }
             }
         }
-        Err(error) => print!(rt; "{error}")?,
+        Err(error) => show_display("", &error, shown),
     }
-    println!(rt; "")?;
-    Ok(())
+    shown.end();
 }
 
 /// Shows the records of a recording, in their order, and how many bytes after them are none.
-pub(crate) fn show_records(
-    rt: &HostRuntime,
-    bytes: &[u8],
-    data: Section,
-    events: &Vec<Event>,
-) -> Result<()> {
+pub(crate) fn show_records(bytes: &[u8], data: Section, events: &Vec<Event>, shown: &mut Shown) {
     let end = data.offset.saturating_add(data.size);
     let mut at = data.offset;
     for _ in 0..u64::MAX {
         let window = bytes_of(bytes, at, end.saturating_sub(at));
         match record_at(window, at) {
             Ok(Some((record, size))) => {
-                show_record(rt, &record, events)?;
+                show_record(&record, events, shown);
                 at = at.saturating_add(size);
+                continue;
             }
-            Ok(None) => {
-                println!(rt; "left {}", window.len())?;
-                break;
-            }
-            Err(error) => {
-                println!(rt; "{error}")?;
-                break;
-            }
+            Ok(None) => shown.number("left ", window.len() as u64),
+            Err(error) => show_display("", &error, shown),
         }
+        shown.end();
+        break;
     }
-    Ok(())
 }

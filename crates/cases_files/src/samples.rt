@@ -1,15 +1,15 @@
 //! Samples.
 
-use crate::text::show_number;
-use anyhow::Result;
+use crate::text::{show_number, show_thread};
 use perf_files::{ChainFrame, Context, Sample, SavedRegisters, WalkStart, push_frames};
+use shown_text::Shown;
 
 fn context_name(context: Context) -> &'static str {
     match context {
-        Context::User => "user",
-        Context::Kernel => "kernel",
-        Context::Hypervisor => "hypervisor",
-        Context::Other => "other",
+        Context::User => " user",
+        Context::Kernel => " kernel",
+        Context::Hypervisor => " hypervisor",
+        Context::Other => " other",
     }
 }
 
@@ -21,31 +21,27 @@ pub(crate) fn start_of(registers: &SavedRegisters<'_>) -> Option<WalkStart> {
     }
 }
 
-fn show_start(rt: &HostRuntime, registers: &SavedRegisters<'_>) -> Result<()> {
+fn show_start(registers: &SavedRegisters<'_>, shown: &mut Shown) {
     match start_of(registers) {
         Some(start) => {
-            print!(rt;
-                " at {:#x} stack {:#x}",
-                start.instruction_pointer, start.stack_pointer
-            )?;
-            show_number(rt, "frame", start.frame_pointer)?;
-            show_number(rt, "link", start.link_register)
+            shown.hex(" at 0x", start.instruction_pointer);
+            shown.hex(" stack 0x", start.stack_pointer);
+            show_number(" frame", start.frame_pointer, shown);
+            show_number(" link", start.link_register, shown);
         }
-        None => {
-            print!(rt; " no start")?;
-            Ok(())
-        }
+        None => shown.text(" no start"),
     }
 }
 
-fn show_chain(rt: &HostRuntime, sample: &Sample<'_>) -> Result<()> {
-    let mut frames: Vec<ChainFrame> = Vec::new(rt.alloc());
-    push_frames(&mut frames, &sample.call_chain)?;
-    print!(rt; " chain {}", sample.call_chain.len())?;
+fn show_chain(sample: &Sample<'_>, shown: &mut Shown) {
+    let mut frames: Vec<ChainFrame> = Vec::new(shown.alloc());
+    let pushed = push_frames(&mut frames, &sample.call_chain);
+    shown.keep(pushed);
+    shown.number(" chain ", sample.call_chain.len() as u64);
     for frame in frames.as_slice() {
-        print!(rt; " {} {:#x}", context_name(frame.context), frame.address)?;
+        shown.text(context_name(frame.context));
+        shown.hex(" 0x", frame.address);
     }
-    Ok(())
 }
 
 // A sum over bytes that tells their order.
@@ -58,19 +54,19 @@ fn sum_of(bytes: &[u8]) -> u32 {
 }
 
 /// Shows a sample.
-pub(crate) fn show_sample(rt: &HostRuntime, event: usize, sample: &Sample<'_>) -> Result<()> {
+pub(crate) fn show_sample(event: usize, sample: &Sample<'_>, shown: &mut Shown) {
     let head = sample.head;
-    print!(rt; "sample {event}")?;
+    shown.number("sample ", event as u64);
     match head.thread {
-        Some(thread) => print!(rt; " {}/{}", thread.pid, thread.tid)?,
-        None => print!(rt; " -")?,
+        Some(thread) => show_thread(" ", thread, shown),
+        None => shown.text(" -"),
     }
-    show_number(rt, "ip", head.instruction_pointer)?;
-    show_number(rt, "time", head.time)?;
-    show_number(rt, "period", head.period)?;
-    show_chain(rt, sample)?;
-    show_start(rt, &sample.user_registers)?;
+    show_number(" ip", head.instruction_pointer, shown);
+    show_number(" time", head.time, shown);
+    show_number(" period", head.period, shown);
+    show_chain(sample, shown);
+    show_start(&sample.user_registers, shown);
     let bytes = sample.user_stack;
-    print!(rt; " copied {} sum {:#x}", bytes.len(), sum_of(bytes))?;
-    Ok(())
+    shown.number(" copied ", bytes.len() as u64);
+    shown.hex(" sum 0x", u64::from(sum_of(bytes)));
 }

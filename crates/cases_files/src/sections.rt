@@ -1,7 +1,9 @@
 //! Sections, their notes, and the build id.
 
+use crate::text::show_digits;
 use anyhow::Result;
 use elf_files::{ElfFile, Notes, Section, SectionKind};
+use shown_text::Shown;
 
 fn kind_number(kind: SectionKind) -> u32 {
     match kind {
@@ -16,54 +18,51 @@ fn kind_number(kind: SectionKind) -> u32 {
     }
 }
 
-fn show_notes(rt: &HostRuntime, mut notes: Notes<'_>) -> Result<()> {
+fn show_notes(mut notes: Notes<'_>, shown: &mut Shown) -> Result<()> {
     for _ in 0..u64::MAX {
         let Some(note) = notes.next()? else {
             break;
         };
-        let name = hex::encode(rt.alloc(), note.name)?;
-        let kind = note.kind;
-        let size = note.descriptor.len();
-        println!(rt; "note {name} kind {kind:#x} size {size:#x}")?;
+        show_digits("note ", note.name, shown);
+        shown.hex(" kind 0x", u64::from(note.kind));
+        shown.hex(" size 0x", note.descriptor.len() as u64);
+        shown.end();
     }
     Ok(())
 }
 
-fn show_section(rt: &HostRuntime, name: &[u8], section: &Section) -> Result<()> {
-    let name = str::from_utf8(name)?;
-    let kind = kind_number(section.kind);
-    let flags = section.flags;
-    let address = section.address;
-    let offset = section.offset;
-    let size = section.size;
-    print!(rt;
-        "section {kind:#x} {name} flags {flags:#x} address {address:#x} at {offset:#x} size {size:#x}"
-    )?;
-    let link = section.link;
-    let info = section.info;
-    let alignment = section.alignment;
-    let entry_size = section.entry_size;
-    println!(rt; " link {link} info {info} aligned {alignment} entries {entry_size:#x}")?;
-    Ok(())
+fn show_section(name: &[u8], section: &Section, shown: &mut Shown) {
+    shown.hex("section 0x", u64::from(kind_number(section.kind)));
+    shown.text(" ");
+    shown.bytes(name);
+    shown.hex(" flags 0x", section.flags);
+    shown.hex(" address 0x", section.address);
+    shown.hex(" at 0x", section.offset);
+    shown.hex(" size 0x", section.size);
+    shown.number(" link ", u64::from(section.link));
+    shown.number(" info ", u64::from(section.info));
+    shown.number(" aligned ", section.alignment);
+    shown.hex(" entries 0x", section.entry_size);
+    shown.end();
 }
 
 /// Shows the sections of a file, with their notes.
-pub(crate) fn show_sections(rt: &HostRuntime, file: &ElfFile<'_>) -> Result<()> {
+pub(crate) fn show_sections(file: &ElfFile<'_>, shown: &mut Shown) -> Result<()> {
     for index in 0..file.section_count() {
         let section = file.section(index)?;
-        show_section(rt, file.section_name(&section)?, &section)?;
+        show_section(file.section_name(&section)?, &section, shown);
         if matches!(section.kind, SectionKind::Note) {
-            show_notes(rt, file.section_notes(&section)?)?;
+            show_notes(file.section_notes(&section)?, shown)?;
         }
     }
     Ok(())
 }
 
 /// Shows the build id of a file.
-pub(crate) fn show_build_id(rt: &HostRuntime, file: &ElfFile<'_>) -> Result<()> {
+pub(crate) fn show_build_id(file: &ElfFile<'_>, shown: &mut Shown) -> Result<()> {
     if let Some(id) = file.build_id()? {
-        let digits = hex::encode(rt.alloc(), id)?;
-        println!(rt; "build id {digits}")?;
+        show_digits("build id ", id, shown);
+        shown.end();
     }
     Ok(())
 }

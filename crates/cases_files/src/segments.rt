@@ -2,6 +2,7 @@
 
 use anyhow::Result;
 use elf_files::{ElfFile, Segment, SegmentKind};
+use shown_text::Shown;
 
 fn kind_number(kind: SegmentKind) -> u32 {
     match kind {
@@ -15,23 +16,21 @@ fn kind_number(kind: SegmentKind) -> u32 {
     }
 }
 
-fn show_segment(rt: &HostRuntime, segment: &Segment) -> Result<()> {
-    let kind = kind_number(segment.kind);
-    let flags = segment.flags;
-    let offset = segment.offset;
-    let address = segment.address;
-    print!(rt; "segment {kind:#x} flags {flags} at {offset:#x} address {address:#x}")?;
-    let file_size = segment.file_size;
-    let memory_size = segment.memory_size;
-    let alignment = segment.alignment;
-    println!(rt; " sizes {file_size:#x} {memory_size:#x} aligned {alignment:#x}")?;
-    Ok(())
+fn show_segment(segment: &Segment, shown: &mut Shown) {
+    shown.hex("segment 0x", u64::from(kind_number(segment.kind)));
+    shown.number(" flags ", u64::from(segment.flags));
+    shown.hex(" at 0x", segment.offset);
+    shown.hex(" address 0x", segment.address);
+    shown.hex(" sizes 0x", segment.file_size);
+    shown.hex(" 0x", segment.memory_size);
+    shown.hex(" aligned 0x", segment.alignment);
+    shown.end();
 }
 
 /// Shows the segments of a file.
-pub(crate) fn show_segments(rt: &HostRuntime, file: &ElfFile<'_>) -> Result<()> {
+pub(crate) fn show_segments(file: &ElfFile<'_>, shown: &mut Shown) -> Result<()> {
     for index in 0..file.segment_count() {
-        show_segment(rt, &file.segment(index)?)?;
+        show_segment(&file.segment(index)?, shown);
     }
     Ok(())
 }

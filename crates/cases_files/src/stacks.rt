@@ -4,9 +4,8 @@ use anyhow::{Context, Result, bail};
 use flame_graph::{
     Direction, FlameBox, FlameError, FoldedStack, Picture, flame_boxes, flame_graph,
 };
+use shown_text::Shown;
 use std::alloc::Global;
-use std::io;
-use std::io::{BufWriter, Write};
 
 // The title of a picture.
 const TITLE: &[u8] = b"A title & <more>";
@@ -30,55 +29,53 @@ fn stacks_between(alloc: Global, text: &str, mark: char) -> Result<Vec<FoldedSta
     Ok(stacks)
 }
 
-fn show_box<W: Write>(out: &mut W, flame: &FlameBox<'_>) -> Result<()> {
+fn show_box(flame: &FlameBox<'_>, shown: &mut Shown) {
     let FlameBox {
         depth,
         start,
         width,
         name,
     } = *flame;
-    write!(out, "{depth} {start} {width} ")?;
-    out.write_all(name)?;
-    out.write_all(b"\t")?;
-    Ok(())
+    shown.number("", depth as u64);
+    shown.number(" ", start);
+    shown.number(" ", width);
+    shown.text(" ");
+    shown.bytes(name);
+    shown.text("\t");
 }
 
-fn show_boxes<W: Write>(alloc: Global, out: &mut W, line: &str) -> Result<()> {
-    let stacks = stacks_between(alloc, line, '\t')?;
-    match flame_boxes(alloc, &stacks) {
+fn show_boxes(line: &str, shown: &mut Shown) -> Result<()> {
+    let stacks = stacks_between(shown.alloc(), line, '\t')?;
+    match flame_boxes(shown.alloc(), &stacks) {
         Ok(boxes) => {
             for flame in &boxes {
-                show_box(out, flame)?;
+                show_box(flame, shown);
             }
         }
         Err(FlameError::OutOfMemory) => bail!("out of memory"),
-        Err(FlameError::TooManySamples) => out.write_all(b"too many samples")?,
+        Err(FlameError::TooManySamples) => shown.text("too many samples"),
     }
-    out.write_all(b"\n")?;
+    shown.end();
     Ok(())
 }
 
-/// Writes the boxes of each line, which has stacks with their counts between tabs.
-pub(crate) fn show_stacks(rt: &HostRuntime, lines: &[u8]) -> Result<()> {
-    let mut out = BufWriter::new(rt.alloc(), io::writer(rt))?;
-    for line in str::from_utf8(lines)?.lines() {
-        show_boxes(rt.alloc(), &mut out, line)?;
+/// Shows the boxes of each line, which has stacks with their counts between tabs.
+pub(crate) fn show_stacks(lines: &str, shown: &mut Shown) -> Result<()> {
+    for line in lines.lines() {
+        show_boxes(line, shown)?;
     }
-    out.flush()?;
     Ok(())
 }
 
-/// Writes the picture of stacks, of which each line has one, as `stackcollapse` scripts write them.
-pub(crate) fn show_picture(rt: &HostRuntime, lines: &[u8], direction: Direction) -> Result<()> {
-    let stacks = stacks_between(rt.alloc(), str::from_utf8(lines)?, '\n')?;
+/// Shows the picture of stacks, of which each line has one, as `stackcollapse` scripts write them.
+pub(crate) fn show_picture(lines: &str, direction: Direction, shown: &mut Shown) -> Result<()> {
+    let stacks = stacks_between(shown.alloc(), lines, '\n')?;
     let picture = Picture {
         title: TITLE,
         unit: b"samples",
         direction,
     };
-    let text = flame_graph(rt.alloc(), &picture, &stacks)?;
-    let mut out = BufWriter::new(rt.alloc(), io::writer(rt))?;
-    out.write_all(&text)?;
-    out.flush()?;
+    let text = flame_graph(shown.alloc(), &picture, &stacks)?;
+    shown.bytes(&text);
     Ok(())
 }

@@ -1,6 +1,9 @@
 //! Words and bytes as text.
 
-use anyhow::Result;
+use perf_files::ThreadId;
+use shown_text::Shown;
+use std::alloc::AllocError;
+use std::fmt::Display;
 
 /// The bytes of a section, as far as there are some.
 pub(crate) fn bytes_of(bytes: &[u8], offset: u64, size: u64) -> &[u8] {
@@ -10,25 +13,45 @@ pub(crate) fn bytes_of(bytes: &[u8], offset: u64, size: u64) -> &[u8] {
     &rest[..size]
 }
 
-/// Shows a number, or a dash.
-pub(crate) fn show_number(rt: &HostRuntime, name: &str, number: Option<u64>) -> Result<()> {
+/// Shows a number after a name, or a dash.
+pub(crate) fn show_number(name: &str, number: Option<u64>, shown: &mut Shown) {
+    shown.text(name);
     match number {
-        Some(number) => print!(rt; " {name} {number:#x}")?,
-        None => print!(rt; " {name} -")?,
+        Some(number) => shown.hex(" 0x", number),
+        None => shown.text(" -"),
     }
-    Ok(())
+}
+
+/// Shows the numbers of a process and a thread.
+pub(crate) fn show_thread(before: &str, thread: ThreadId, shown: &mut Shown) {
+    shown.number(before, u64::from(thread.pid));
+    shown.number("/", u64::from(thread.tid));
 }
 
 /// Shows a name, each byte that isn't a visible character of ASCII as a question mark.
-pub(crate) fn show_name(rt: &HostRuntime, name: &[u8]) -> Result<()> {
-    print!(rt; " ")?;
+pub(crate) fn show_name(name: &[u8], shown: &mut Shown) {
+    shown.text(" ");
     for byte in name {
-        let shown = if byte.is_ascii_graphic() {
-            char::from(*byte)
-        } else {
-            '?'
-        };
-        print!(rt; "{shown}")?;
+        let visible = if byte.is_ascii_graphic() { *byte } else { b'?' };
+        shown.bytes(&[visible]);
     }
-    Ok(())
+}
+
+// Adds a text that was made, or keeps that there was no memory for it.
+fn show_made(made: Result<String, AllocError>, shown: &mut Shown) {
+    match made {
+        Ok(text) => shown.text(text.as_str()),
+        Err(error) => shown.keep(Err(error)),
+    }
+}
+
+/// Shows a value by its own text.
+pub(crate) fn show_display<T: Display>(before: &str, value: &T, shown: &mut Shown) {
+    show_made(format!(in shown.alloc(); "{before}{value}"), shown);
+}
+
+/// Shows bytes as hexadecimal digits.
+pub(crate) fn show_digits(before: &str, bytes: &[u8], shown: &mut Shown) {
+    shown.text(before);
+    show_made(hex::encode(shown.alloc(), bytes), shown);
 }

@@ -2,39 +2,18 @@
 //! architecture; walks of x86_64 through a cache of 1,024 slots; steps by Windows' unwind data; and passes over the entries and rows of a
 //! section.
 
+use crate::architectures::show_on;
 use anyhow::{Result, bail};
-use bench_steps::{
-    Aarch64, Plain, Tabulated, TimedData, TimedRegs, X86_64, print_caches, print_compact,
-    print_frames_of, print_pe, print_walks,
-};
-use framehop::ModuleUnwinding;
-
-// Makes the walks or steps of an input on an architecture.
-fn show_on<A: ModuleUnwinding<UnwindData = TimedData>>(
-    rt: &HostRuntime,
-    what: &str,
-    input: &[u8],
-) -> Result<()>
-where
-    A::UnwindRegs: TimedRegs,
-{
-    match what {
-        "walks" => print_walks::<A, Plain, HostRuntime>(rt, input, ""),
-        "tables" => print_walks::<A, Tabulated, HostRuntime>(rt, input, ""),
-        "compact_steps" => print_compact::<A, HostRuntime>(rt, input, false),
-        "caches" => print_caches::<A, HostRuntime>(rt, input, 1024, false),
-        _ => bail!("there is no bench of this name"),
-    }
-}
+use bench_steps::{X86_64, print_frames_of, print_pe};
 
 /// Makes what the bench with a name times, on its input, and prints what the program prints that makes it alone, which `bench/programs`
 /// builds for its times.
 pub(crate) fn show_bench(rt: &HostRuntime, name: &str, input: &[u8]) -> Result<()> {
     if let Some(what) = name.strip_suffix("_x86_64") {
-        return show_on::<X86_64>(rt, what, input);
+        return show_on(rt, false, what, input);
     }
     if let Some(what) = name.strip_suffix("_aarch64") {
-        return show_on::<Aarch64>(rt, what, input);
+        return show_on(rt, true, what, input);
     }
     match name {
         "pe" => print_pe::<X86_64, HostRuntime>(rt, input, false),

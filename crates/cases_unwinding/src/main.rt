@@ -8,6 +8,7 @@
 //! - `walks_x86_64` and other names of benches: what [`benches`] says, of the input of a bench.
 #![tactic(auto)]
 
+mod architectures;
 mod benches;
 mod documents;
 mod lint;

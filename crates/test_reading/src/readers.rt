@@ -1,4 +1,4 @@
-//! Numbers, texts and parts of readers of one kind. `cases_readers` asks readers of every kind.
+//! Numbers, texts and parts of readers of one kind. `cases_dwarf` asks readers of every kind.
 
 mod equality;
 mod steps;

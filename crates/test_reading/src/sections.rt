@@ -1,4 +1,4 @@
-//! Tables, strings and addresses of sections. `cases_readers` has what they give for bytes.
+//! Tables, strings and addresses of sections. `cases_dwarf` has what they give for bytes.
 
 mod cache;
 mod parts;

@@ -7,7 +7,6 @@ use std::str::SplitWhitespace;
 /// A module's sections, and addresses at which steps are made.
 #[derive(Drop)]
 pub struct Case {
-    pub is_aarch64: bool,
     /// The name of the section of call frames.
     pub is_debug_frame: bool,
     /// The address of the file that relative addresses are relative to.
@@ -35,16 +34,14 @@ fn bytes(alloc: Global, words: &mut SplitWhitespace<'_>) -> Result<Vec<u8>> {
 }
 
 impl Case {
-    /// Reads a line, with spaces between its words, numbers in hexadecimal digits: `x86_64` or `aarch64`; `.eh_frame` or
+    /// Reads a line without its first word, with spaces between its words, numbers in hexadecimal digits: `.eh_frame` or
     /// `.debug_frame`; the module's base as the file states it, and the address of `.text`; the section's address, and its
     /// bytes in hexadecimal digits after an `x`; those of `.eh_frame_hdr`; and addresses relative to the base: those inside
     /// FDEs, a `/`, and others.
     pub fn parse(alloc: Global, line: &str) -> Result<Self> {
         let mut words = line.split_whitespace();
-        let is_aarch64 = words.next() == Some("aarch64");
         let is_debug_frame = words.next() == Some(".debug_frame");
         let mut case = Case {
-            is_aarch64,
             is_debug_frame,
             base: number(&mut words)?,
             text: number(&mut words)?,

@@ -1,6 +1,7 @@
 //! The frames that steps are made from. All words of their stacks differ, and tell their addresses.
 
 use anyhow::{Context, Result};
+use bench_steps::FirstRegisters;
 use framehop::FrameAddress;
 
 /// Where the module is loaded.
@@ -12,7 +13,7 @@ pub struct Frame {
     pub is_first: bool,
     pub at: u32,
     pub address: FrameAddress,
-    pub numbers: (u64, u64, u64),
+    pub registers: FirstRegisters,
 }
 
 impl Frame {
@@ -26,12 +27,16 @@ impl Frame {
         };
         let sp = 0x7f00_0000_0000 + 16 * (u64::from(at) % 65_521);
         let fp = sp + 16 + 8 * (u64::from(at) % 11);
-        let code = if is_first { place } else { place + 1 };
         Ok(Frame {
             is_first,
             at,
             address,
-            numbers: (code, sp, fp),
+            registers: FirstRegisters {
+                code: if is_first { place } else { place + 1 },
+                sp,
+                fp,
+                mask: u64::MAX,
+            },
         })
     }
 }

@@ -1,13 +1,15 @@
 //! The modules that steps are compared in, and the steps.
 
-use crate::tables::arch::{ComparedData, ComparedRegs};
+use crate::tables::arch::ComparedRegs;
 use crate::tables::case::Case;
 use crate::tables::frames::{BASE, Frame, word_at};
 use anyhow::{Result, bail};
+use bench_steps::{TimedData, TimedModule, TimedRegs};
 use framehop::{
-    Arch, Cache, Error, ExplicitModuleSectionInfo, FdeLookup, Generations, LoadOptions, Module,
+    Arch, Cache, Error, ExplicitModuleSectionInfo, FdeLookup, Generations, LoadOptions,
     ModuleUnwinding, TableArch, Unwinder, UnwinderInternal, load_module,
 };
+use shown_text::Shown;
 use std::alloc::Global;
 
 /// What steps keep and reuse.
@@ -49,10 +51,10 @@ fn sections_of(alloc: Global, case: &Case) -> Result<ExplicitModuleSectionInfo<V
 }
 
 // An unwinder of one module.
-fn unwinder_of<A: ModuleUnwinding<UnwindData = ComparedData>>(
+fn unwinder_of<A: ModuleUnwinding<UnwindData = TimedData>>(
     alloc: Global,
     generations: &mut Generations,
-    module: Module<Vec<u8>>,
+    module: TimedModule,
 ) -> Result<UnwinderInternal<A>> {
     let mut unwinder = UnwinderInternal::new(alloc, generations)?;
     if unwinder.add_module(generations, module).is_err() {
@@ -67,7 +69,7 @@ fn module_of(
     case: &Case,
     lookup: FdeLookup,
     tables: Option<TableArch>,
-) -> Result<Module<Vec<u8>>> {
+) -> Result<TimedModule> {
     let options = LoadOptions {
         lookup,
         tables,
@@ -78,7 +80,7 @@ fn module_of(
     Ok(load_module(alloc, name, BASE..u64::MAX, BASE, sections, options)?)
 }
 
-impl<A: ModuleUnwinding<UnwindData = ComparedData>> Roads<A>
+impl<A: ModuleUnwinding<UnwindData = TimedData>> Roads<A>
 where
     A::UnwindRegs: ComparedRegs,
 {
@@ -109,10 +111,24 @@ fn step<A: ModuleUnwinding>(
 where
     A::UnwindRegs: ComparedRegs,
 {
-    let mut regs = A::UnwindRegs::of(frame.numbers);
+    let mut regs = A::UnwindRegs::of(frame.registers);
     let mut read_stack = |at: u64| -> std::result::Result<u64, ()> { word_at(at) };
     let result = unwinder.unwind_frame(frame.address, &mut regs, cache, &mut read_stack);
     (result, regs.numbers())
+}
+
+// Shows what a step gives, after a text.
+fn show_stepped(before: &str, stepped: Stepped, shown: &mut Shown) {
+    shown.text(before);
+    match stepped.0 {
+        Ok(Some(address)) => shown.hex(" return address 0x", address),
+        Ok(None) => shown.text(" no caller"),
+        Err(_) => shown.text(" an error"),
+    }
+    let (code, sp, fp) = stepped.1;
+    shown.hex(" 0x", code);
+    shown.hex(" 0x", sp);
+    shown.hex(" 0x", fp);
 }
 
 /// What was counted.
@@ -127,25 +143,34 @@ impl Tally {
     // Counts a step, and shows it if it isn't as by the index.
     fn count(
         &mut self,
-        shown: &mut String,
+        shown: &mut Shown,
         road: &str,
         frame: Frame,
         stepped: Stepped,
         by_index: Stepped,
-    ) -> Result<()> {
+    ) {
         self.steps = self.steps.wrapping_add(1);
         if let Ok(Some(_)) = stepped.0 {
             self.callers = self.callers.wrapping_add(1);
         }
         if stepped != by_index {
             self.differences = self.differences.wrapping_add(1);
-            let (at, is_first) = (frame.at, frame.is_first);
-            write!(
-                shown,
-                "{road} {at:#x} {is_first}: {stepped:?}, by index {by_index:?}\n"
-            )?;
+            shown.text(if frame.is_first { "first" } else { "later" });
+            shown.hex(" frame at 0x", u64::from(frame.at));
+            show_stepped(": by ", stepped, shown);
+            shown.text(" ");
+            shown.text(road);
+            show_stepped(", by index", by_index, shown);
+            shown.end();
         }
-        Ok(())
+    }
+
+    // Shows what was counted.
+    fn show(&self, shown: &mut Shown) {
+        shown.number("", u64::from(self.steps));
+        shown.number(" steps, ", u64::from(self.callers));
+        shown.number(" callers, ", u64::from(self.differences));
+        shown.text(" differences");
     }
 }
 
@@ -156,21 +181,20 @@ fn compare<A: ModuleUnwinding>(
     frame: Frame,
     in_all: bool,
     tally: &mut Tally,
-    shown: &mut String,
-) -> Result<()>
+    shown: &mut Shown,
+)
 where
     A::UnwindRegs: ComparedRegs,
 {
     let by_index = step::<A>(&roads.index, cache, frame);
     let by_table = step::<A>(&roads.table, cache, frame);
-    tally.count(shown, "table", frame, by_table, by_index)?;
+    tally.count(shown, "table", frame, by_table, by_index);
     if in_all {
         let by_header = step::<A>(&roads.header, cache, frame);
-        tally.count(shown, "header", frame, by_header, by_index)?;
+        tally.count(shown, "header", frame, by_header, by_index);
         let by_scan = step::<A>(&roads.scan, cache, frame);
-        tally.count(shown, "scan", frame, by_scan, by_index)?;
+        tally.count(shown, "scan", frame, by_scan, by_index);
     }
-    Ok(())
 }
 
 // Compares steps from a first and a later frame at each address.
@@ -180,63 +204,45 @@ fn compare_all<A: ModuleUnwinding>(
     addresses: &[u32],
     in_all: bool,
     tally: &mut Tally,
-    shown: &mut String,
+    shown: &mut Shown,
 ) -> Result<()>
 where
     A::UnwindRegs: ComparedRegs,
 {
     for at in addresses {
-        compare::<A>(roads, cache, Frame::new(true, *at)?, in_all, tally, shown)?;
-        compare::<A>(roads, cache, Frame::new(false, *at)?, in_all, tally, shown)?;
+        compare::<A>(roads, cache, Frame::new(true, *at)?, in_all, tally, shown);
+        compare::<A>(roads, cache, Frame::new(false, *at)?, in_all, tally, shown);
     }
     Ok(())
 }
 
 /// Compares the steps of a case, through one cache, and shows what was counted, each difference, and how large the table is.
-pub fn show_steps<A: ModuleUnwinding<UnwindData = ComparedData>>(
-    alloc: Global,
+pub fn show_steps<A: ModuleUnwinding<UnwindData = TimedData>>(
     case: &Case,
-) -> Result<String>
+    shown: &mut Shown,
+) -> Result<()>
 where
     A::UnwindRegs: ComparedRegs,
 {
+    let alloc = shown.alloc();
     let roads: Roads<A> = Roads::new(alloc, case)?;
     let mut cache: ComparedCache<A> = Cache::new(alloc, A::unwind_context(alloc)?)?;
-    let mut shown = String::new(alloc);
     let mut tally = Tally {
         steps: 0,
         callers: 0,
         differences: 0,
     };
-    let has_header = !case.header.is_empty();
-    compare_all::<A>(
-        &roads,
-        &mut cache,
-        &case.inside,
-        has_header,
-        &mut tally,
-        &mut shown,
-    )?;
-    compare_all::<A>(
-        &roads,
-        &mut cache,
-        &case.others,
-        false,
-        &mut tally,
-        &mut shown,
-    )?;
-    let Tally {
-        steps,
-        callers,
-        differences,
-    } = tally;
-    write!(
-        shown,
-        "{steps} steps, {callers} callers, {differences} differences; "
-    )?;
+    let in_all = !case.header.is_empty();
+    compare_all::<A>(&roads, &mut cache, &case.inside, in_all, &mut tally, shown)?;
+    compare_all::<A>(&roads, &mut cache, &case.others, false, &mut tally, shown)?;
+    tally.show(shown);
     match roads.table_size {
-        Some(size) => write!(shown, "{size} changes\n")?,
-        None => write!(shown, "no table\n")?,
+        Some(size) => {
+            shown.number("; ", size as u64);
+            shown.text(" changes");
+        }
+        None => shown.text("; no table"),
     }
-    Ok(shown)
+    shown.end();
+    Ok(())
 }
