@@ -8,6 +8,7 @@ import collections
 import pathlib
 import re
 import resource
+import struct
 import subprocess
 import time
 
@@ -230,6 +231,17 @@ BUILT = {
     "damaged-low": (DAMAGED, "gcc", ["-O1"], ["4"]),
 }
 
+# Each program whose file has no section headers, or isn't there when the core is read, which then has all pages of it; or both.
+NO_HEADERS, NO_FILE = "no headers", "no file"
+BARE = {
+    "no-headers": (DOWN, "gcc", ["-O2", "-fomit-frame-pointer"], ["20"], [NO_HEADERS]),
+    "no-headers-clang": (DOWN, "clang", ["-O2", "-fomit-frame-pointer"], ["20"], [NO_HEADERS]),
+    "no-file": (DOWN, "gcc", ["-O2", "-fomit-frame-pointer"], ["20"], [NO_FILE]),
+    "no-file-clang": (SIGNALS, "clang", ["-O2"], [], [NO_FILE]),
+    "no-file-threads": (THREADS, "gcc", ["-O2", "-fomit-frame-pointer", "-pthread"], [], [NO_FILE]),
+    "no-file-no-headers": (DOWN, "gcc", ["-O2", "-fomit-frame-pointer", "-no-pie"], ["20"], [NO_HEADERS, NO_FILE]),
+}
+
 # Each program that a signal ends, whose core Linux makes. eu-stack isn't asked: it leaves out the caller of an address without code.
 ENDED = {
     "null-call": (NOWHERE, "gcc", ["-O2"], ["0"]),
@@ -295,7 +307,7 @@ ARM_BUILT = {
 ARM_ROOT = "/usr/aarch64-linux-gnu"
 ARM_MASK = 0x7F << 48
 
-NAMES = [*BUILT, *ENDED, *STRIPPED, *LINKED, *STOPPED, *ARM_BUILT]
+NAMES = [*BUILT, *BARE, *ENDED, *STRIPPED, *LINKED, *STOPPED, *ARM_BUILT]
 
 # A program with its core; the debugger for it, with its first commands; and whether eu-stack can be asked.
 Made = collections.namedtuple("Made", "program core debugger by_eu_stack")
@@ -325,11 +337,41 @@ def run_by_gdb(folder, program, arguments):
     return Made(program, core, ["gdb", "-nx", "-batch"], True)
 
 
-def dump_by_linux(folder, program, *arguments, limit=resource.RLIM_INFINITY):
-    """The core that Linux makes of a program, of which it writes at most so many bytes. Pages of zeros aren't written."""
-    subprocess.run([program, *arguments], cwd=folder, capture_output=True, preexec_fn=lambda: resource.setrlimit(resource.RLIMIT_CORE, (limit, limit)))
+# Which pages Linux writes to a core (`coredump_filter` of core(5)): those of no file and the first of ELF files, as it does itself, or all.
+OWN_PAGES, ALL_PAGES = "0x33", "0x7f"
+
+
+def dump_by_linux(folder, program, *arguments, limit=resource.RLIM_INFINITY, pages=OWN_PAGES):
+    """The core that Linux makes of a program, with these pages, of which it writes at most so many bytes. Pages of zeros aren't written."""
+    def prepare():
+        resource.setrlimit(resource.RLIMIT_CORE, (limit, limit))
+        pathlib.Path("/proc/self/coredump_filter").write_text(pages)
+
+    subprocess.run([program, *arguments], cwd=folder, capture_output=True, preexec_fn=prepare)
     made = folder / "core"
     return made if made.is_file() else give_up("Linux made no file `core` (/proc/sys/kernel/core_pattern)")
+
+
+def without_headers(data):
+    """An ELF file without its section headers (e_shoff, e_shnum and e_shstrndx), and without what follows its segments."""
+    table, count = struct.unpack_from("<Q", data, 32)[0], struct.unpack_from("<H", data, 56)[0]
+    ends = [sum(struct.unpack_from("<Q", data, table + 56 * number + at)[0] for at in (8, 32)) for number in range(count)]
+    return data[:40] + bytes(8) + data[48:60] + bytes(4) + data[64:max(ends)]
+
+
+def make_bare(folder, name):
+    """Builds a program, has Linux make its core, and leaves its file as the case wants it. Other tools read its whole file under another name:
+    gdb finds no call frames without section headers, and eu-stack loses its way without the file."""
+    source, compiler, options, arguments, lacks = BARE[name]
+    program = build(folder, source, compiler, options)
+    whole = program.with_name("whole")
+    whole.write_bytes(program.read_bytes())
+    if NO_HEADERS in lacks:
+        program.write_bytes(without_headers(program.read_bytes()))
+    core = dump_by_linux(folder, program, *arguments, pages=ALL_PAGES if NO_FILE in lacks else OWN_PAGES)
+    if NO_FILE in lacks:
+        program.unlink()
+    return Made(whole, core, ["gdb", "-nx", "-batch"], True)
 
 
 def make_ended(folder, name):
@@ -416,5 +458,5 @@ def make(folder, name):
     if name in BUILT:
         # eu-stack takes more than three minutes of processor for 100,000 frames.
         return make_by_gdb(folder, *BUILT[name])._replace(by_eu_stack=name != "deeper")
-    makers = {make_ended: ENDED, make_stripped: STRIPPED, make_linked: LINKED, make_stopped: STOPPED, make_arm: ARM_BUILT}
+    makers = {make_ended: ENDED, make_stripped: STRIPPED, make_linked: LINKED, make_bare: BARE, make_stopped: STOPPED, make_arm: ARM_BUILT}
     return next(make_one for make_one, names in makers.items() if name in names)(folder, name)

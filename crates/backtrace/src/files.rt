@@ -1,8 +1,9 @@
 //! The files that are mapped into a core's process, as the system gives them.
 
 use crate::arguments::CoreRequest;
-use backtrace_files::{GivenFile, build_id_of, is_debug_file_of};
-use core_files::MappedFile;
+use backtrace_files::{GivenFile, build_id_of, has_other_build_id, is_debug_file_of};
+use core_files::{CoreFile, MappedFile};
+use core_images::file_image;
 use debug_links::{debug_link_of, linked_paths};
 use elf_files::ElfFile;
 use function_index::has_symbol_table;
@@ -17,6 +18,8 @@ pub(crate) struct NamedFile<'a> {
     pub(crate) name: &'a [u8],
     /// The bytes, or why there are none.
     pub(crate) bytes: io::Result<Vec<u8>>,
+    /// The bytes that the core's memory has, if the file can't be read or has another build id, and they are there.
+    pub(crate) image: Option<Vec<u8>>,
     /// The bytes of its debug file, if it has no symbols itself and there is one.
     pub(crate) debug: Option<Vec<u8>>,
 }
@@ -134,43 +137,81 @@ fn read_debug(
     Ok(by_link.or(by_id))
 }
 
-// Reads the file that a core names, below a folder, and its debug file.
+// Whether a file was read, and isn't another than the one of this name that was mapped.
+fn is_there(core: &CoreFile<'_>, name: &[u8], bytes: &io::Result<Vec<u8>>) -> bool {
+    match bytes {
+        Ok(known) => !has_other_build_id(core, name, known.as_slice()),
+        Err(_) => false,
+    }
+}
+
+// Reads the file that a core names, below a folder, or else takes what the core's memory has of it.
 fn read_file<'a>(
     rt: &HostRuntime,
     request: &CoreRequest<'_>,
+    core: &CoreFile<'_>,
     name: &'a [u8],
 ) -> Result<NamedFile<'a>, AllocError> {
     let bytes = read_below(rt, request.root, name);
-    let debug = match &bytes {
-        Ok(known) => read_debug(rt, request, name, known.as_slice())?,
-        Err(_) => None,
+    let image = if is_there(core, name, &bytes) {
+        None
+    } else {
+        file_image(rt.alloc(), core, name)?
     };
-    Ok(NamedFile { name, bytes, debug })
+    Ok(NamedFile {
+        name,
+        bytes,
+        image,
+        debug: None,
+    })
+}
+
+// The same with its debug file.
+fn read_with_debug<'a>(
+    rt: &HostRuntime,
+    request: &CoreRequest<'_>,
+    core: &CoreFile<'_>,
+    name: &'a [u8],
+) -> Result<NamedFile<'a>, AllocError> {
+    let file = read_file(rt, request, core, name)?;
+    let debug = match file.known_bytes() {
+        Some(known) => read_debug(rt, request, name, known)?,
+        None => None,
+    };
+    Ok(NamedFile { debug, ..file })
 }
 
 /// Reads the files that a core names, each once, and their debug files.
 pub(crate) fn read_files<'a>(
     rt: &HostRuntime,
     request: &CoreRequest<'_>,
-    mappings: &[MappedFile<'a>],
+    core: &CoreFile<'a>,
 ) -> Result<Vec<NamedFile<'a>>, AllocError> {
     let mut files = Vec::new(rt.alloc());
-    for mapping in mappings {
+    for mapping in core.mapped_files() {
         if file_named(files.as_slice(), mapping.name).is_none() {
-            files.push(read_file(rt, request, mapping.name)?)?;
+            files.push(read_with_debug(rt, request, core, mapping.name)?)?;
         }
     }
     Ok(files)
 }
 
 impl NamedFile<'_> {
+    // The bytes that are taken for the file's: those of the core's memory, if there are such, or else its own.
+    fn known_bytes(&self) -> Option<&[u8]> {
+        if let Some(image) = &self.image {
+            return Some(image.as_slice());
+        }
+        match &self.bytes {
+            Ok(bytes) => Some(bytes.as_slice()),
+            Err(_) => None,
+        }
+    }
+
     // What is known of it, if it is.
     fn given(&self) -> GivenFile<'_> {
         GivenFile {
-            bytes: match &self.bytes {
-                Ok(bytes) => Some(bytes.as_slice()),
-                Err(_) => None,
-            },
+            bytes: self.known_bytes(),
             debug: match &self.debug {
                 Some(bytes) => Some(bytes.as_slice()),
                 None => None,

@@ -36,20 +36,38 @@ fn say_of(rt: &HostRuntime, name: &[u8], what: &str) -> Result<()> {
     Ok(())
 }
 
-// Says of a file that it is missing or another than the core's.
+// Says of a file that it is missing or another than the core's, and if what the core's memory has of it is taken.
+fn say_missing(rt: &HostRuntime, file: &NamedFile<'_>, why: &str) -> Result<()> {
+    if file.image.is_some() {
+        let what = format!(in rt.alloc(); "{why}; its pages in the core are used")?;
+        say_of(rt, file.name, what.as_str())
+    } else {
+        say_of(rt, file.name, why)
+    }
+}
+
+// Says of a file that its debug file is of another build, if it is.
+fn say_if_other_symbols(rt: &HostRuntime, file: &NamedFile<'_>) -> Result<()> {
+    if file.has_other_symbols() {
+        say_of(rt, file.name, "its file with symbols is of another build")?;
+    }
+    Ok(())
+}
+
+// Says of a file that it is missing or another than the core's, or that its debug file is of another build.
 fn say_if_missing(rt: &HostRuntime, core: &CoreFile<'_>, file: &NamedFile<'_>) -> Result<()> {
     match &file.bytes {
-        Ok(bytes) => {
-            if has_other_build_id(core, file.name, bytes.as_slice()) {
-                say_of(rt, file.name, "has another build id than the core")?;
-            } else if file.has_other_symbols() {
-                say_of(rt, file.name, "its file with symbols is of another build")?;
-            }
+        Ok(bytes) if !has_other_build_id(core, file.name, bytes.as_slice()) => {
+            return say_if_other_symbols(rt, file);
         }
+        Ok(_) => say_missing(rt, file, "has another build id than the core")?,
         Err(error) => {
             let why = format!(in rt.alloc(); "{error}")?;
-            say_of(rt, file.name, why.as_str())?;
+            say_missing(rt, file, why.as_str())?;
         }
+    }
+    if file.image.is_some() {
+        say_if_other_symbols(rt, file)?;
     }
     Ok(())
 }
@@ -75,7 +93,7 @@ fn print_stacks(
         let path = request.core;
         eprintln!(rt; "backtrace: {path}: cut off: a part of the memory is lost")?;
     }
-    let files = read_files(rt, request, core.mapped_files())?;
+    let files = read_files(rt, request, core)?;
     for file in &files {
         say_if_missing(rt, core, file)?;
     }

@@ -1,6 +1,7 @@
 -- Whether a file is the one that was mapped, by build ids, or its debug file, by its link too.
-use Rattle.std.specs.Prelude.{ℕ, ◌==◌, ◌&&◌, Bool, true, false, not, bytes_eq, List, Option, Some, None, option_and_then}
+use Rattle.std.specs.Prelude.{ℕ, ◌==◌, ◌&&◌, Bool, true, false, not, bytes_eq, if◌then◌else◌, List, Option, Some, None, option_and_then}
 use Rattle.std.specs.List.{find}
+use Rattle.std.specs.Option.{option_or}
 use Rattle.std.specs.Result.{result_ok}
 use Rattle.list_laws.specs.First.{first_value}
 use Rattle.core_files.specs.CoreFiles.{CoreContents}
@@ -11,6 +12,7 @@ use Rattle.debug_links.specs.Links.{Link, debug_link_of}
 use Rattle.elf_files.specs.BuildIds.{build_id}
 use Rattle.elf_files.specs.Header.{header_of}
 use Rattle.elf_files.specs.declared.header.Header.{Header}
+use Rattle.backtrace_files.specs.SegmentSections.{has_named_sections}
 
 -- the file that begins at an address of the first range in which one can
 abbrev pub file_at : List KnownRange → ℕ → Option (List ℕ)
@@ -28,13 +30,22 @@ first_mapping mappings name = find (begins_file name) mappings
 abbrev pub readable_id : List ℕ → Header → Option (List ℕ)
 readable_id bytes header = option_and_then (λ id. id) (result_ok (build_id bytes header))
 
--- the build id of a file by its segments, whose first bytes are there, as they are in memory
+-- .. by its segments
+abbrev pub id_by_segments : List ℕ → Header → Option (List ℕ)
+id_by_segments bytes header = readable_id bytes (record header { section_count = 0 })
+
+-- the build id of a file whose first bytes are there, as they are in memory: by its segments
 abbrev pub id_without_sections : List ℕ → Option (List ℕ)
-id_without_sections bytes = option_and_then (λ header. readable_id bytes (record header { section_count = 0 })) (result_ok (header_of bytes))
+id_without_sections bytes = option_and_then (id_by_segments bytes) (result_ok (header_of bytes))
+
+-- the build id of a file with this header, or if it has none that can be read, nor sections with names, that by its segments
+abbrev pub id_with_header : List ℕ → Header → Option (List ℕ)
+id_with_header bytes header =
+    option_or (readable_id bytes header) (if has_named_sections bytes header then None else id_by_segments bytes header)
 
 -- the build id of a file
 abbrev pub build_id_of : List ℕ → Option (List ℕ)
-build_id_of bytes = option_and_then (readable_id bytes) (result_ok (header_of bytes))
+build_id_of bytes = option_and_then (id_with_header bytes) (result_ok (header_of bytes))
 
 -- the build id of the file of this name that was mapped, by what the core has of it from its first byte on
 abbrev pub build_id_at : CoreContents → List ℕ → Option (List ℕ)

@@ -7,3 +7,5 @@ pub mod ProcessFiles
 pub mod Results
 pub mod SectionViews
 pub mod Sections
+pub mod SegmentSections
+pub mod SegmentViews

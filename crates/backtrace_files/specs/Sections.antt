@@ -7,6 +7,7 @@ use Rattle.elf_files.specs.Sections.{section_bytes, section_named}
 use Rattle.elf_files.specs.declared.header.Header.{Header}
 use Rattle.elf_files.specs.declared.section.Section.{Section}
 use Rattle.framehop_modules.specs.Sections.{Sections}
+use Rattle.backtrace_files.specs.SegmentSections.{data_by_segments, has_named_sections, range_by_segments}
 
 -- a section has call frames, or the table of their entries (LSB, "Special Sections"; DWARF 5, 6.4)
 abbrev pub is_call_frames : List ℕ → Bool
@@ -31,12 +32,22 @@ data_named bytes header name =
     if is_call_frames name
     then option_and_then (λ section. result_ok (section_bytes bytes section)) (readable_section bytes header name) else None
 
+-- the addresses of a section, by its name, or if names of sections can't be read, by the segments
+abbrev pub range_of : List ℕ → Header → List ℕ → Option (Range ℕ)
+range_of bytes header name =
+    if has_named_sections bytes header then range_named bytes header name else range_by_segments bytes header name
+
+-- the bytes of a section with call frames, likewise
+abbrev pub data_of : List ℕ → Header → List ℕ → Option (List ℕ)
+data_of bytes header name =
+    if has_named_sections bytes header then data_named bytes header name else data_by_segments bytes header name
+
 -- the sections of a file by their names, whose addresses are the file's, with the one that relative addresses count from
 abbrev pub sections_of : List ℕ → Header → ℕ → Sections
 sections_of bytes header base = record {
   base_svma = base;
-  section_range = λ name. range_named bytes header name;
-  section_data = λ name. data_named bytes header name;
+  section_range = λ name. range_of bytes header name;
+  section_data = λ name. data_of bytes header name;
   segment_range = λ name. None;
   segment_data = λ name. None;
 }

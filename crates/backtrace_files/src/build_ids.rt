@@ -6,9 +6,10 @@ ghost use Rattle.core_files.specs.CoreViews.{contents_of};
 ghost use Rattle.core_files.specs.FileViews.{mapping_of};
 ghost use Rattle.core_files.specs.NoteViews.{mappings_of};
 ghost use Rattle.core_files.specs.RangeViews.{ranges_seen};
-ghost use Rattle.backtrace_files.specs.BuildIds.{agree, build_id_at, build_id_of, begins_file, differ, file_at, first_mapping, id_without_sections, has_other_build_id, is_debug_file_of, is_link_to};
+ghost use Rattle.backtrace_files.specs.BuildIds.{agree, build_id_at, build_id_of, begins_file, differ, file_at, first_mapping, id_by_segments, id_with_header, id_without_sections, has_other_build_id, is_debug_file_of, is_link_to, readable_id};
 ghost use Rattle.debug_links.specs.LinkViews.{link_seen};
 
+use crate::segments::has_named_sections;
 use core_files::{CoreFile, MappedFile, MemoryRange};
 use debug_links::{DebugLink, checksum_of, debug_link_of};
 use elf_files::{ElfFile, Header};
@@ -44,21 +45,53 @@ fn first_mapping<'a>(mappings: &[MappedFile<'a>], name: &[u8]) -> Option<MappedF
     None
 }
 
-// The build id in memory, of a file whose first bytes are there: by its segments.
-fn id_without_sections<'a>(bytes: &'a [u8]) -> Option<&'a [u8]>
-    ensures { option_copied result ≡ id_without_sections bytes.now }
+// The build id of a file, if it can be read.
+fn readable_id<'a>(elf: &ElfFile<'a>) -> Option<&'a [u8]>
+    ensures { option_copied result ≡ readable_id elf.now.bytes.now elf.now.header }
 {
-    let Ok(elf) = ElfFile::parse(bytes) else {
-        return None;
-    };
+    match elf.build_id() {
+        Ok(id) => id,
+        Err(_) => None,
+    }
+}
+
+// The same by its segments.
+fn id_by_segments<'a>(elf: &ElfFile<'a>) -> Option<&'a [u8]>
+    ensures { option_copied result ≡ id_by_segments elf.now.bytes.now elf.now.header }
+{
     let header = Header {
         section_count: 0,
         ..elf.header
     };
-    let loaded = ElfFile { bytes, header };
-    match loaded.build_id() {
-        Ok(id) => id,
+    readable_id(&ElfFile {
+        bytes: elf.bytes,
+        header,
+    })
+}
+
+// The build id in memory, of a file whose first bytes are there: by its segments.
+fn id_without_sections<'a>(bytes: &'a [u8]) -> Option<&'a [u8]>
+    ensures { option_copied result ≡ id_without_sections bytes.now }
+{
+    match ElfFile::parse(bytes) {
+        Ok(elf) => id_by_segments(&elf),
         Err(_) => None,
+    }
+}
+
+// The build id of a file, or if it has none that can be read, nor sections with names, that by its segments.
+fn id_with_header<'a>(elf: &ElfFile<'a>) -> Option<&'a [u8]>
+    ensures { option_copied result ≡ id_with_header elf.now.bytes.now elf.now.header }
+{
+    match readable_id(elf) {
+        Some(id) => Some(id),
+        None => {
+            if has_named_sections(elf) {
+                None
+            } else {
+                id_by_segments(elf)
+            }
+        }
     }
 }
 
@@ -66,11 +99,8 @@ fn id_without_sections<'a>(bytes: &'a [u8]) -> Option<&'a [u8]>
 pub fn build_id_of<'a>(bytes: &'a [u8]) -> Option<&'a [u8]>
     ensures { option_copied result ≡ build_id_of bytes.now }
 {
-    let Ok(elf) = ElfFile::parse(bytes) else {
-        return None;
-    };
-    match elf.build_id() {
-        Ok(id) => id,
+    match ElfFile::parse(bytes) {
+        Ok(elf) => id_with_header(&elf),
         Err(_) => None,
     }
 }

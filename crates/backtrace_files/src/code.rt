@@ -48,9 +48,9 @@ fn begins_with(mapping: &MappedFile<'_>, segment: &Segment) -> bool
     has_code_of(mapping, segment) && segment.offset - segment.offset % PAGE_SIZE == mapping.offset
 }
 
-// The first segment of a file for which a test holds.
+/// The first segment of a file for which a test holds.
 #[tactic(auto, using(crate::proofs::Entries::entries_more))]
-fn first_segment<F: Fn(&Segment) -> bool>(file: &ElfFile<'_>, test: F) -> Option<Segment>
+pub(crate) fn first_segment<F: Fn(&Segment) -> bool>(file: &ElfFile<'_>, test: F) -> Option<Segment>
     requires { F.IsAlwaysCallable test }
     ensures { (says : Segment → Bool) → Computes (F.post test) says
         → result ≡ first_segment says file.now.bytes.now file.now.header }

@@ -7,6 +7,7 @@ mod files;
 mod loaded_file;
 mod locations;
 mod sections;
+mod segments;
 
 pub use build_ids::{build_id_of, has_other_build_id, is_debug_file_of};
 pub use code::{LoadedCode, loaded_code};

@@ -2,8 +2,9 @@
 
 ghost use Rattle.std.specs.Prelude.{◌≡◌};
 ghost use Rattle.std.specs.Option.{option_copied};
-ghost use Rattle.backtrace_files.specs.Sections.{data_named, is_call_frames, range_named};
+ghost use Rattle.backtrace_files.specs.Sections.{data_named, data_of, is_call_frames, range_named, range_of};
 
+use crate::segments::{data_by_segments, has_named_sections, range_by_segments};
 use elf_files::ElfFile;
 use framehop_modules::ModuleSectionInfo;
 use std::ops::Range;
@@ -62,6 +63,28 @@ fn data_named<'a>(file: &ElfFile<'a>, name: &[u8]) -> Option<&'a [u8]>
     }
 }
 
+// The addresses of a section, by its name, or if names of sections can't be read, by the segments.
+fn range_of(file: &ElfFile<'_>, name: &[u8]) -> Option<Range<u64>>
+    ensures { result ≡ range_of file.now.bytes.now file.now.header name.now }
+{
+    if has_named_sections(file) {
+        range_named(file, name)
+    } else {
+        range_by_segments(file, name)
+    }
+}
+
+// The bytes of a section with call frames, likewise.
+fn data_of<'a>(file: &ElfFile<'a>, name: &[u8]) -> Option<&'a [u8]>
+    ensures { option_copied result ≡ data_of file.now.bytes.now file.now.header name.now }
+{
+    if has_named_sections(file) {
+        data_named(file, name)
+    } else {
+        data_by_segments(file, name)
+    }
+}
+
 impl<'a> ModuleSectionInfo<&'a [u8]> for FileSections<'a> {
     ghost use Rattle.backtrace_files.specs.SectionViews.{sections_seen};
 
@@ -72,11 +95,11 @@ impl<'a> ModuleSectionInfo<&'a [u8]> for FileSections<'a> {
     }
 
     fn section_svma_range(&mut self, name: &[u8]) -> Option<Range<u64>> {
-        range_named(&self.file, name)
+        range_of(&self.file, name)
     }
 
     fn section_data(&mut self, name: &[u8]) -> Option<&'a [u8]> {
-        data_named(&self.file, name)
+        data_of(&self.file, name)
     }
 
     fn segment_svma_range(&mut self, _name: &[u8]) -> Option<Range<u64>> {
