@@ -1,5 +1,5 @@
 -- The bytes of a file, as the memory of a core has them.
-use Rattle.std.specs.Prelude.{ℕ, zero, suc, ◌+◌, ◌-◌, ◌^◌, ◌==◌, ◌&&◌, Bool, false, nat_le, nat_lt, bytes_eq, if◌then◌else◌, List, [], ◌∷◌, length, Option, Some, None, option_and_then}
+use Rattle.std.specs.Prelude.{ℕ, zero, suc, ◌+◌, ◌-◌, ◌^◌, ◌==◌, ◌&&◌, Bool, true, false, nat_le, nat_lt, bytes_eq, if◌then◌else◌, List, [], ◌∷◌, length, Option, Some, None, option_and_then}
 use Rattle.std.specs.List.{filter, find}
 use Rattle.core_files.specs.CoreFiles.{CoreContents}
 use Rattle.core_files.specs.MappedFiles.{FileMapping}
@@ -53,6 +53,12 @@ can_begin (Some first) = first == 0x7f
 abbrev pub image_by : (ℕ → Option ℕ) → Option (List ℕ)
 image_by byte = if can_begin (byte 0) && nat_le 64 (length (known_bytes byte)) then Some (known_bytes byte) else None
 
--- the bytes of the file of this name, as the core's memory has them
+-- each mapping begins where those before it end, or after that, as Linux writes them: no address is of two
+abbrev pub are_apart_from : ℕ → List FileMapping → Bool
+are_apart_from end [] = true
+are_apart_from end (mapping ∷ rest) = nat_le end mapping.start && nat_le mapping.start mapping.end && are_apart_from mapping.end rest
+
+-- the bytes of the file of this name, as the core's memory has them, if no address is of two mappings
 abbrev pub file_image : CoreContents → List ℕ → Option (List ℕ)
-file_image core name = image_by (byte_of_file core.segments (mappings_named name core.files))
+file_image core name =
+    if are_apart_from 0 core.files then image_by (byte_of_file core.segments (mappings_named name core.files)) else None

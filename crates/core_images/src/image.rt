@@ -5,7 +5,7 @@ ghost use Rattle.core_files.specs.CoreViews.{contents_of};
 ghost use Rattle.core_images.specs.Images.{can_begin, file_image, known_bytes};
 ghost use Rattle.core_images.specs.RunViews.{file_byte, run_seen};
 
-use crate::mappings::{mappings_named, run_of_file};
+use crate::mappings::{are_apart, mappings_named, run_of_file};
 use crate::runs::Run;
 use core_files::{CoreFile, MappedFile, MemoryRange};
 use std::alloc::{AllocError, Global};
@@ -75,7 +75,8 @@ fn known_bytes(
 
 /// The bytes of the file of this name, as the core's memory has them, from its first byte on: each at the address at which the first
 /// mapping of the file that has its offset has it, up to the first offset that no mapping has, or whose byte the core hasn't. None if
-/// these aren't the whole header of an ELF file. Fails if memory is refused.
+/// these aren't the whole header of an ELF file, or if two of the core's mappings overlap or are out of order, as Linux doesn't write them.
+/// Fails if memory is refused.
 pub fn file_image(
     alloc: Global,
     core: &CoreFile<'_>,
@@ -84,6 +85,9 @@ pub fn file_image(
     ensures { IfOk result
         (λ image. option_map (λ bytes. bytes.items) image ≡ file_image (contents_of core.now) name.now) }
 {
+    if !are_apart(core.mapped_files()) {
+        return Ok(None);
+    }
     let mappings = mappings_named(alloc, core.mapped_files(), name)?;
     if !can_begin(core.segments(), mappings.as_slice()) {
         return Ok(None);

@@ -3,13 +3,27 @@
 ghost use Rattle.std.specs.Prelude.{◌≡◌, ◌≤◌, ◌<◌, ◌++◌, option_map, IfOk, IfSome, IfNone, None, OnOk};
 ghost use Rattle.core_files.specs.FileViews.{mapping_of};
 ghost use Rattle.core_files.specs.NoteViews.{mappings_of};
-ghost use Rattle.core_images.specs.Images.{has_offset, if_named, mapping_at, mappings_named};
+ghost use Rattle.core_images.specs.Images.{are_apart_from, has_offset, if_named, mapping_at, mappings_named};
 ghost use Rattle.core_images.specs.Runs.{AreKnown, NoneBegins};
 ghost use Rattle.core_images.specs.RunViews.{file_byte, run_seen};
 
 use crate::runs::{Run, run_at};
 use core_files::{MappedFile, MemoryRange};
 use std::alloc::{AllocError, Global};
+
+/// Whether each mapping begins where those before it end, or after that.
+pub(crate) fn are_apart(mappings: &[MappedFile<'_>]) -> bool
+    ensures { result ≡ are_apart_from 0 (mappings_of mappings.now) }
+{
+    let mut end = 0;
+    for mapping in mappings {
+        if mapping.start < end || mapping.end < mapping.start {
+            return false;
+        }
+        end = mapping.end;
+    }
+    true
+}
 
 // Adds a mapping, if it is of a file with this name.
 fn push_named<'a>(
