@@ -5,6 +5,7 @@ from its /proc/self/maps before its `main`, and the bits of a signature of addre
 """
 
 import collections
+import lzma
 import pathlib
 import re
 import resource
@@ -272,6 +273,15 @@ LINKED = {
 }
 OTHER_BUILDS = {"debug-link-of-another"}
 
+# Each program with a section that isn't read, since it is compressed: what compresses it, and its name. The stacks go by frame pointers, or
+# without the names of functions.
+FRAME_POINTERS = ["-g", "-O1", "-fno-omit-frame-pointer", "-fno-asynchronous-unwind-tables", "-fno-unwind-tables"]
+UNREAD = {
+    "compressed-frames": (DOWN, "gcc", FRAME_POINTERS, ["20"], "--compress-debug-sections=zlib", ".debug_frame"),
+    "compressed-frames-old": (DOWN, "gcc", FRAME_POINTERS, ["20"], "--compress-debug-sections=zlib-gnu", ".zdebug_frame"),
+    "mini-debug-info": (DOWN, "gcc", ["-O1"], ["20"], None, ".gnu_debugdata"),
+}
+
 # Each program of the system that is stopped at work: its path and arguments.
 STOPPED = {
     "python3": ("/usr/bin/python3", "-c", "import time\ndef f(n):\n    return f(n - 1) + 1 if n else time.sleep(600)\nf(40)"),
@@ -307,7 +317,7 @@ ARM_BUILT = {
 ARM_ROOT = "/usr/aarch64-linux-gnu"
 ARM_MASK = 0x7F << 48
 
-NAMES = [*BUILT, *BARE, *ENDED, *STRIPPED, *LINKED, *STOPPED, *ARM_BUILT]
+NAMES = [*BUILT, *BARE, *ENDED, *STRIPPED, *LINKED, *UNREAD, *STOPPED, *ARM_BUILT]
 
 # A program with its core; the debugger for it, with its first commands; and whether eu-stack can be asked.
 Made = collections.namedtuple("Made", "program core debugger by_eu_stack")
@@ -408,6 +418,21 @@ def make_linked(folder, name):
     return made._replace(debugger=[*made.debugger, "-iex", f"set debug-file-directory {debug_root}"])
 
 
+def make_unread(folder, name):
+    """Builds a program, compresses its debug sections, or its symbols as an ELF file in a section, runs it up to its signal, and makes its
+    core."""
+    source, compiler, options, arguments, compression, section = UNREAD[name]
+    program = build(folder, source, compiler, options)
+    if compression:
+        run("objcopy", compression, program)
+    else:
+        symbols = folder / "symbols"
+        run("objcopy", "--only-keep-debug", program, symbols)
+        symbols.with_suffix(".xz").write_bytes(lzma.compress(symbols.read_bytes()))
+        run("objcopy", "--strip-all", f"--add-section={section}={symbols.with_suffix('.xz')}", program)
+    return run_by_gdb(folder, program, arguments)
+
+
 def make_stopped(folder, name):
     """Runs a program for a moment, and makes its core."""
     core = folder / "core"
@@ -458,5 +483,6 @@ def make(folder, name):
     if name in BUILT:
         # eu-stack takes more than three minutes of processor for 100,000 frames.
         return make_by_gdb(folder, *BUILT[name])._replace(by_eu_stack=name != "deeper")
-    makers = {make_ended: ENDED, make_stripped: STRIPPED, make_linked: LINKED, make_bare: BARE, make_stopped: STOPPED, make_arm: ARM_BUILT}
+    makers = {make_ended: ENDED, make_stripped: STRIPPED, make_linked: LINKED, make_bare: BARE, make_unread: UNREAD,
+              make_stopped: STOPPED, make_arm: ARM_BUILT}
     return next(make_one for make_one, names in makers.items() if name in names)(folder, name)

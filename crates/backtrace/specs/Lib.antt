@@ -1,3 +1,4 @@
 pub mod ArgumentViews
 pub mod Arguments
 pub mod Statuses
+pub mod Unread

@@ -208,25 +208,28 @@ impl NamedFile<'_> {
         }
     }
 
+    /// The bytes that are used for the file's: none if it is missing or another than the core's, and the core's memory has none.
+    pub(crate) fn used_bytes(&self, core: &CoreFile<'_>) -> Option<&[u8]> {
+        if self.image.is_some() || is_there(core, self.name, &self.bytes) {
+            self.known_bytes()
+        } else {
+            None
+        }
+    }
+
+    /// The bytes of its debug file, which may be of another build, if there is one.
+    pub(crate) fn debug_bytes(&self) -> Option<&[u8]> {
+        match &self.debug {
+            Some(bytes) => Some(bytes.as_slice()),
+            None => None,
+        }
+    }
+
     // What is known of it, if it is.
     fn given(&self) -> GivenFile<'_> {
         GivenFile {
             bytes: self.known_bytes(),
-            debug: match &self.debug {
-                Some(bytes) => Some(bytes.as_slice()),
-                None => None,
-            },
-        }
-    }
-
-    /// Whether its debug file is of another build.
-    pub(crate) fn has_other_symbols(&self) -> bool {
-        match self.given() {
-            GivenFile {
-                bytes: Some(bytes),
-                debug: Some(debug),
-            } => !is_debug_file_of(bytes, debug),
-            _ => false,
+            debug: self.debug_bytes(),
         }
     }
 }

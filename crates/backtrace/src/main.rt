@@ -9,10 +9,11 @@ mod arguments;
 mod core_parts;
 mod files;
 mod lint;
+mod unread;
 
 use anyhow::{Context, Result, bail};
 use arguments::{CoreRequest, Request, USAGE, request_of};
-use backtrace_files::has_other_build_id;
+use backtrace_files::{has_other_build_id, is_debug_file_of};
 use backtrace_text::push_name;
 use backtrace_walks::write_stacks;
 use core_files::{CoreError, CoreFile, Thread};
@@ -23,6 +24,7 @@ use lint::lint_files;
 use std::io::{BufWriter, Write};
 use std::process::ExitCode;
 use std::{env, fs, io};
+use unread::{ReadSection, unread_sections, unread_symbols};
 
 // The exit status if the arguments, the core or a file has a fault.
 const FAULTY: u8 = 2;
@@ -46,30 +48,59 @@ fn say_missing(rt: &HostRuntime, file: &NamedFile<'_>, why: &str) -> Result<()> 
     }
 }
 
-// Says of a file that its debug file is of another build, if it is.
-fn say_if_other_symbols(rt: &HostRuntime, file: &NamedFile<'_>) -> Result<()> {
-    if file.has_other_symbols() {
-        say_of(rt, file.name, "its file with symbols is of another build")?;
-    }
-    Ok(())
-}
-
-// Says of a file that it is missing or another than the core's, or that its debug file is of another build.
+// Says of a file that it is missing or another than the core's, if it is.
 fn say_if_missing(rt: &HostRuntime, core: &CoreFile<'_>, file: &NamedFile<'_>) -> Result<()> {
     match &file.bytes {
-        Ok(bytes) if !has_other_build_id(core, file.name, bytes.as_slice()) => {
-            return say_if_other_symbols(rt, file);
-        }
-        Ok(_) => say_missing(rt, file, "has another build id than the core")?,
+        Ok(bytes) if !has_other_build_id(core, file.name, bytes.as_slice()) => Ok(()),
+        Ok(_) => say_missing(rt, file, "has another build id than the core"),
         Err(error) => {
             let why = format!(in rt.alloc(); "{error}")?;
-            say_missing(rt, file, why.as_str())?;
+            say_missing(rt, file, why.as_str())
         }
     }
-    if file.image.is_some() {
-        say_if_other_symbols(rt, file)?;
+}
+
+// Says of a file, or of its debug file, which sections aren't read, if there are such.
+fn say_unread(rt: &HostRuntime, name: &[u8], whose: &str, sections: &[ReadSection]) -> Result<()> {
+    if sections.is_empty() {
+        return Ok(());
     }
-    Ok(())
+    let mut what = format!(in rt.alloc(); "{whose}compressed, so not read")?;
+    let mut before = ": ";
+    for section in sections {
+        what.push_str(before)?;
+        what.push_str(section.text())?;
+        before = ", ";
+    }
+    say_of(rt, name, what.as_str())
+}
+
+// Says of a file that is used what isn't read of it and of its debug file, and if this is of another build.
+fn say_unused(rt: &HostRuntime, file: &NamedFile<'_>, bytes: &[u8]) -> Result<()> {
+    match file.debug_bytes() {
+        Some(debug) if is_debug_file_of(bytes, debug) => {
+            let own = unread_sections(rt.alloc(), bytes, true)?;
+            say_unread(rt, file.name, "", &own)?;
+            let symbols = unread_symbols(rt.alloc(), debug)?;
+            say_unread(rt, file.name, "its file with symbols: ", &symbols)
+        }
+        other => {
+            if other.is_some() {
+                say_of(rt, file.name, "its file with symbols is of another build")?;
+            }
+            let own = unread_sections(rt.alloc(), bytes, false)?;
+            say_unread(rt, file.name, "", &own)
+        }
+    }
+}
+
+// Says of a file what of it isn't used, if anything isn't: all of it, or what isn't read.
+fn say_of_file(rt: &HostRuntime, core: &CoreFile<'_>, file: &NamedFile<'_>) -> Result<()> {
+    say_if_missing(rt, core, file)?;
+    match file.used_bytes(core) {
+        Some(bytes) => say_unused(rt, file, bytes),
+        None => Ok(()),
+    }
 }
 
 // Whether one of the threads has this id.
@@ -95,7 +126,7 @@ fn print_stacks(
     }
     let files = read_files(rt, request, core)?;
     for file in &files {
-        say_if_missing(rt, core, file)?;
+        say_of_file(rt, core, file)?;
     }
     let given = given_files(rt.alloc(), files.as_slice(), core.mapped_files())?;
     let mut sink = Streamed::new(BufWriter::new(rt.alloc(), io::writer(rt))?);
