@@ -51,7 +51,7 @@ fn take_all<A: SampleArch>(
             continue;
         };
         match folding.take::<FoundFiles<'_>>(rt.alloc(), options, events, files, &record) {
-            Ok(_change) => {}
+            Ok(_taken) => {}
             Err(FoldError::OutOfMemory) => bail!("out of memory"),
             Err(_) => unreadable = unreadable.saturating_add(1),
         }

@@ -2,7 +2,9 @@
 use Rattle.std.specs.Prelude.{◌≡◌, List, slice_get, Option, Some, None, IfSome, Ok, IfOk}
 use Rattle.perf_files.specs.Events.{event_of}
 use Rattle.perf_files.specs.Records.{RecordParts}
+use Rattle.perf_files.specs.declared.attributes.Attributes.{Attributes}
 use Rattle.perf_files.specs.declared.event.Event.{Event}
+use Rattle.perf_files.specs.declared.record.RecordKind.{RecordKind}
 use Rattle.perf_processes.specs.Processes.{ProcessState, after_change}
 use Rattle.perf_processes.specs.declared.change.Change.{Change}
 use Rattle.fold_stacks.specs.RecordChanges.{change_by, number_in}
@@ -12,8 +14,11 @@ abbrev pub after_if : Option Change → ProcessState → ProcessState
 after_if (Some change) state = after_change change state
 after_if None state = state
 
+-- This is what a record of this kind changes, by the attributes of its event.
+abbrev pub IsChange : RecordKind → Attributes → RecordParts → Option Change → Type 0
+IsChange kind attributes found change = change_by kind attributes found (number_in change) ≡ Ok change
+
 -- This is what a record changes, by the attributes of the event that it is of.
 abbrev pub SaysChange : List Event → RecordParts → Option Change → Type 0
 SaysChange events found change =
-    IfOk (event_of events found) (λ index. IfSome (slice_get events index)
-    (λ event. change_by found.kind event.attributes found (number_in change) ≡ Ok change))
+    IfOk (event_of events found) (λ index. IfSome (slice_get events index) (λ event. IsChange found.kind event.attributes found change))

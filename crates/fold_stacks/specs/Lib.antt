@@ -1,8 +1,11 @@
 pub mod Concerns
+pub mod CountedStacks
+pub mod FoldingStates
 pub mod Foldings
 pub mod FrameTexts
 pub mod Frames
 pub mod RecordChanges
 pub mod Selections
 pub mod Stacks
+pub mod Taken
 pub mod Walks

@@ -1,10 +1,13 @@
 //! The folded stacks of the records so far.
 
-ghost use Rattle.std.specs.Prelude.{◌≡◌, IfOk, Ok};
+ghost use Rattle.std.specs.Prelude.{◌≡◌, IfOk, map};
+ghost use Rattle.folded_stacks.specs.LineViews.{line_seen};
 ghost use Rattle.perf_files.specs.RecordViews.{record_seen};
-ghost use Rattle.perf_processes.specs.Processes.{no_processes};
-ghost use Rattle.fold_stacks.specs.Foldings.{SaysChange, after_if};
-ghost use Rattle.fold_stacks.specs.RecordChanges.{change_by, number_in};
+ghost use Rattle.perf_files.specs.declared.record.RecordKind.TheVariants as kind;
+ghost use Rattle.fold_stacks.specs.CountedStacks.{lines_in};
+ghost use Rattle.fold_stacks.specs.FoldingStates.{nothing_folded};
+ghost use Rattle.fold_stacks.specs.Foldings.{IsChange, SaysChange, after_if};
+ghost use Rattle.fold_stacks.specs.Taken.{change_in, counted_if, counted_in};
 
 use crate::changes::change_of;
 use crate::comms::Comms;
@@ -12,11 +15,12 @@ use crate::error::FoldError;
 use crate::files::SampledFiles;
 use crate::samples::SampleStacks;
 use crate::selection::{is_selected, weight_of};
+use crate::taken::{CountedSample, Taken};
 use crate::totals::FoldTotals;
 use fold_options::FoldOptions;
 use folded_stacks::FoldedLine;
 use perf_files::{Attributes, Event, Record, RecordKind, Sample, ThreadId, event_of, lost_of};
-use perf_processes::{Change, Processes};
+use perf_processes::Processes;
 use sample_stacks::SampleArch;
 use std::alloc::{AllocError, Global};
 use std::marker::Model;
@@ -38,13 +42,16 @@ pub struct Folding<A: SampleArch> {
     samples: SampleStacks<A>,
 }
 
-/// A clause sees what processes have mapped now, and what their threads are called.
+/// A clause sees what processes have mapped now, what their threads are called, and the stacks that were counted.
 impl<A: SampleArch> Model for Folding<A> {
-    ghost use Rattle.perf_processes.specs.Processes.{ProcessState};
+    ghost use Rattle.fold_stacks.specs.FoldingStates.{FoldingState};
 
-    ghost Value = { ProcessState };
+    ghost Value = { FoldingState };
 
-    ghost view = { λ folding. folding.processes };
+    ghost view = { λ folding. record {
+      processes = folding.processes;
+      stacks = folding.samples;
+    } };
 }
 
 // The name of an event.
@@ -58,7 +65,7 @@ fn event_name<'e>(events: RecordedEvents<'e>, index: usize) -> &'e [u8] {
 impl<A: SampleArch> Folding<A> {
     /// No records yet. Fails if memory is refused.
     pub fn new(alloc: Global) -> Result<Self, AllocError>
-        ensures { IfOk result (λ folding. folding ≡ no_processes) }
+        ensures { IfOk result (λ folding. folding ≡ nothing_folded) }
     {
         Ok(Folding {
             processes: Processes::new(alloc),
@@ -76,53 +83,54 @@ impl<A: SampleArch> Folding<A> {
         attributes: &Attributes,
         event: &[u8],
         record: &Record<'_>,
-    ) -> Result<(), FoldError>
-        ensures { self.new ≡ self.old }
+    ) -> Result<Taken, FoldError>
+        ensures change { IfOk result (λ taken. IsChange kind.Sample attributes.now (record_seen record.now) (change_in taken)) }
+        ensures processes { IfOk result (λ taken. self.new.processes ≡ after_if (change_in taken) self.old.processes) }
+        ensures counts { IfOk result (λ taken. self.new.stacks.counts ≡ counted_if (counted_in taken) self.old.stacks.counts) }
     {
         let sample = Sample::parse(record.payload, attributes)?;
         let thread = sample.head.thread.unwrap_or(ThreadId { pid: 0, tid: 0 });
         let comm = self.comms.comm_of(alloc, &self.processes, thread)?;
-        if is_selected(&options.selection, thread, comm.as_slice(), event) {
-            let weight = weight_of(options.weights, sample.head.period, attributes.period);
-            let process = self
-                .samples
-                .process_number(alloc, options, comm.as_slice(), thread)?;
-            self.samples.count::<F>(
-                alloc,
-                options,
-                files,
-                &self.processes,
-                process,
-                thread.pid,
-                &sample,
-                weight,
-            )?;
+        if !is_selected(&options.selection, thread, comm.as_slice(), event) {
+            return Ok(Taken::Nothing);
         }
-        Ok(())
+        let weight = weight_of(options.weights, sample.head.period, attributes.period);
+        let stack = self.samples.count::<F>(
+            alloc,
+            options,
+            files,
+            &self.processes,
+            comm.as_slice(),
+            thread,
+            &sample,
+            weight,
+        )?;
+        Ok(Taken::Counted(CountedSample { stack, weight }))
     }
 
-    // Makes the change that a record says, and returns it.
+    // Makes the change that a record says.
     fn take_change<F: SampledFiles>(
         &mut self,
         files: &mut F,
         attributes: &Attributes,
         record: &Record<'_>,
-    ) -> Result<Option<Change>, FoldError>
-        ensures change { IfOk result (λ change.
-            change_by record.now.kind attributes.now (record_seen record.now) (number_in change) ≡ Ok change) }
-        ensures processes { IfOk result (λ change. self.new ≡ after_if change self.old) }
+    ) -> Result<Taken, FoldError>
+        ensures change { IfOk result (λ taken. IsChange record.now.kind attributes.now (record_seen record.now) (change_in taken)) }
+        ensures processes { IfOk result (λ taken. self.new.processes ≡ after_if (change_in taken) self.old.processes) }
+        ensures counts { IfOk result (λ taken. self.new.stacks.counts ≡ counted_if (counted_in taken) self.old.stacks.counts) }
     {
         let found = change_of::<F>(&mut self.comms.names, files, record, attributes)?;
-        if let Some(change) = found {
-            self.comms.note(&self.processes, change)?;
-            self.processes.apply(change)?;
-            self.samples.note(change);
-        }
-        Ok(found)
+        let Some(change) = found else {
+            return Ok(Taken::Nothing);
+        };
+        self.comms.note(&self.processes, change)?;
+        self.processes.apply(change)?;
+        self.samples.note(change);
+        Ok(Taken::Changed(change))
     }
 
-    /// Takes the next record in the order of time, and returns what it changed. Fails if memory is refused, if it isn't known which event
-    /// the record is of, or if a field of it can't be read.
+    /// Takes the next record in the order of time, and returns what it changed, or the sample that was counted. Fails if memory is refused,
+    /// if it isn't known which event the record is of, or if a field of it can't be read.
     pub fn take<F: SampledFiles>(
         &mut self,
         alloc: Global,
@@ -130,23 +138,23 @@ impl<A: SampleArch> Folding<A> {
         events: RecordedEvents<'_>,
         files: &mut F,
         record: &Record<'_>,
-    ) -> Result<Option<Change>, FoldError>
-        ensures change { IfOk result (λ change. SaysChange events.entry.events.now (record_seen record.now) change) }
-        ensures processes { IfOk result (λ change. self.new ≡ after_if change self.old) }
+    ) -> Result<Taken, FoldError>
+        ensures change { IfOk result (λ taken. SaysChange events.entry.events.now (record_seen record.now) (change_in taken)) }
+        ensures processes { IfOk result (λ taken. self.new.processes ≡ after_if (change_in taken) self.old.processes) }
+        ensures counts { IfOk result (λ taken. self.new.stacks.counts ≡ counted_if (counted_in taken) self.old.stacks.counts) }
     {
         let index = event_of(events.events, record)?;
         let Some(event) = events.events.get(index) else {
-            return Ok(None);
+            return Ok(Taken::Nothing);
         };
         match record.kind {
             RecordKind::Sample => {
                 let name = event_name(events, index);
-                self.take_sample::<F>(alloc, options, files, &event.attributes, name, record)?;
-                Ok(None)
+                self.take_sample::<F>(alloc, options, files, &event.attributes, name, record)
             }
             RecordKind::Lost | RecordKind::LostSamples => {
                 self.samples.add_lost(lost_of(record)?);
-                Ok(None)
+                Ok(Taken::Nothing)
             }
             _ => self.take_change::<F>(files, &event.attributes, record),
         }
@@ -158,7 +166,9 @@ impl<A: SampleArch> Folding<A> {
     }
 
     /// The lines of all stacks so far, sorted by their bytes. Fails if memory is refused.
-    pub fn lines(&self, alloc: Global) -> Result<Vec<FoldedLine>, AllocError> {
+    pub fn lines(&self, alloc: Global) -> Result<Vec<FoldedLine>, AllocError>
+        ensures { IfOk result (λ lines. map line_seen lines.items ≡ lines_in self.now.stacks) }
+    {
         self.samples.lines(alloc)
     }
 }

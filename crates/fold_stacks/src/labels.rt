@@ -1,5 +1,7 @@
 //! The names of frames by their numbers, which are looked up once for each place in a file.
 
+ghost use Rattle.std.specs.Prelude.{◌≡◌, []};
+
 use crate::files::SampledFiles;
 use crate::frames::UserFrame;
 use crate::names::{UNKNOWN, push_function, push_unknown_in};
@@ -11,6 +13,7 @@ use perf_processes::Processes;
 use process_modules::CodePlace;
 use std::alloc::{AllocError, Global};
 use std::collections::HashMap;
+use std::marker::Model;
 
 // A place in a file, as a key.
 #[derive(Clone, Copy, Debug, PartialEq, Eq, Hash)]
@@ -22,8 +25,8 @@ struct PlaceKey {
 /// The names of frames, and the functions of files.
 #[derive(Drop)]
 pub(crate) struct Labels {
-    /// The names.
-    pub(crate) names: FrameNames,
+    // The names.
+    names: FrameNames,
     // The numbers of names that were looked up.
     known: HashMap<PlaceKey, u32>,
     // The numbers of the names of functions, by their symbols: a function is at many places.
@@ -34,6 +37,15 @@ pub(crate) struct Labels {
     kernel: Option<KernelSymbols<'static>>,
     // The numbers of the names of the kernel's frames that were looked up, by their addresses.
     known_kernel: HashMap<u64, u32>,
+}
+
+/// A clause sees the names.
+impl Model for Labels {
+    ghost use Rattle.std.specs.Prelude.{ℕ, List};
+
+    ghost Value = { List (List ℕ) };
+
+    ghost view = { λ labels. labels.names };
 }
 
 // The functions of a file.
@@ -64,7 +76,9 @@ fn kernel_of<F: SampledFiles>(
 
 impl Labels {
     /// No names.
-    pub(crate) fn new(alloc: Global) -> Self {
+    pub(crate) fn new(alloc: Global) -> Self
+        ensures { result ≡ [] }
+    {
         Labels {
             names: FrameNames::new(alloc),
             known: HashMap::new(alloc),
@@ -73,6 +87,18 @@ impl Labels {
             kernel: None,
             known_kernel: HashMap::new(alloc),
         }
+    }
+
+    /// The names.
+    pub(crate) fn names(&self) -> &FrameNames
+        ensures { result.now ≡ self.now }
+    {
+        &self.names
+    }
+
+    /// The number of a name, which gets the next one if it is new.
+    pub(crate) fn number_of(&mut self, text: &[u8]) -> Result<u32, AllocError> {
+        self.names.number_of(text)
     }
 
     // The symbol at a place in a file.
@@ -98,7 +124,7 @@ impl Labels {
         }
         let mut text = Vec::new(alloc);
         push_function(alloc, &mut text, symbol)?;
-        let number = self.names.number_of(text.as_slice())?;
+        let number = self.number_of(text.as_slice())?;
         self.symbols.insert(symbol.to_vec(alloc)?, number)?;
         Ok(number)
     }
@@ -143,7 +169,7 @@ impl Labels {
     ) -> Result<u32, AllocError> {
         let mut text = Vec::new(alloc);
         push_unknown_in(alloc, &mut text, file)?;
-        self.names.number_of(text.as_slice())
+        self.number_of(text.as_slice())
     }
 
     /// The number of the name of a frame of a process: of its function, or of the file that is mapped there.
@@ -192,7 +218,7 @@ impl Labels {
             Some(symbol) => push_kernel_name(&mut text, symbol)?,
             None => push_unknown_in(alloc, &mut text, UNKNOWN)?,
         }
-        self.names.number_of(text.as_slice())
+        self.number_of(text.as_slice())
     }
 
     /// The number of the name of a frame of the kernel.
@@ -218,6 +244,6 @@ impl Labels {
     ) -> Result<u32, AllocError> {
         let mut text = Vec::new(alloc);
         push_address(alloc, &mut text, address)?;
-        self.names.number_of(text.as_slice())
+        self.number_of(text.as_slice())
     }
 }

@@ -10,10 +10,12 @@ mod folding;
 mod frames;
 mod labels;
 mod names;
+mod numbers;
 mod order;
 mod processes;
 mod samples;
 mod selection;
+mod taken;
 mod totals;
 mod walks;
 
@@ -23,4 +25,5 @@ pub use files::{RecordedFile, RecordedFiles, SampledFiles};
 pub use folding::{Folding, RecordedEvents};
 pub use order::{StackParts, folded_stack};
 pub use selection::{is_selected, weight_of};
+pub use taken::{CountedSample, Taken};
 pub use totals::FoldTotals;

@@ -1,0 +1,125 @@
+//! The numbers of the names in a sample's stack.
+
+ghost use Rattle.std.specs.Prelude.{◌≡◌};
+ghost use Rattle.std.specs.Option.{option_copied};
+ghost use Rattle.fold_stacks.specs.Frames.{end_text};
+
+use crate::files::SampledFiles;
+use crate::frames::UserFrame;
+use crate::labels::Labels;
+use crate::names::{BROKEN, TRUNCATED, push_process};
+use fold_options::FoldOptions;
+use perf_files::{Sample, ThreadId};
+use perf_processes::Processes;
+use sample_stacks::{WalkEnd, push_kernel_frames};
+use std::alloc::{AllocError, Global};
+
+// What a walk has in place of its outermost frame, by how it ends.
+fn end_text(end: WalkEnd) -> Option<&'static [u8]>
+    ensures { option_copied result ≡ end_text end }
+{
+    match end {
+        WalkEnd::Complete => None,
+        WalkEnd::Truncated => Some(TRUNCATED),
+        WalkEnd::Broken => Some(BROKEN),
+    }
+}
+
+impl Labels {
+    /// The number of what a stack begins with.
+    pub(crate) fn process_number(
+        &mut self,
+        alloc: Global,
+        options: &FoldOptions<'_>,
+        comm: &[u8],
+        thread: ThreadId,
+    ) -> Result<u32, AllocError> {
+        let shown = if options.per_thread {
+            Some(thread)
+        } else {
+            None
+        };
+        let mut text = Vec::new(alloc);
+        push_process(alloc, &mut text, comm, shown)?;
+        self.number_of(text.as_slice())
+    }
+
+    // The number of the name of a frame of user code, or of its address as a name.
+    fn user_number<F: SampledFiles>(
+        &mut self,
+        alloc: Global,
+        files: &mut F,
+        processes: &Processes,
+        addresses: bool,
+        pid: u32,
+        frame: &UserFrame,
+    ) -> Result<u32, AllocError> {
+        if addresses {
+            self.number_of_address(alloc, frame.address)
+        } else {
+            self.number_of_frame::<F>(alloc, files, processes, pid, frame)
+        }
+    }
+
+    /// The numbers of the names of frames of user code.
+    pub(crate) fn user_numbers<F: SampledFiles>(
+        &mut self,
+        alloc: Global,
+        files: &mut F,
+        processes: &Processes,
+        addresses: bool,
+        pid: u32,
+        frames: &[UserFrame],
+    ) -> Result<Vec<u32>, AllocError> {
+        let mut numbers = Vec::with_capacity(alloc, frames.len())?;
+        for frame in frames {
+            let number = self.user_number::<F>(alloc, files, processes, addresses, pid, frame)?;
+            numbers.push(number)?;
+        }
+        Ok(numbers)
+    }
+
+    // The number of the name of a frame of the kernel, or of its address as a name.
+    fn kernel_frame_number<F: SampledFiles>(
+        &mut self,
+        alloc: Global,
+        files: &mut F,
+        addresses: bool,
+        address: u64,
+    ) -> Result<u32, AllocError> {
+        if addresses {
+            self.number_of_address(alloc, address)
+        } else {
+            self.number_of_kernel::<F>(alloc, files, address)
+        }
+    }
+
+    /// The numbers of the names of the kernel's frames of a sample.
+    pub(crate) fn kernel_numbers<F: SampledFiles>(
+        &mut self,
+        alloc: Global,
+        options: &FoldOptions<'_>,
+        files: &mut F,
+        sample: &Sample<'_>,
+    ) -> Result<Vec<u32>, AllocError> {
+        let mut numbers = Vec::new(alloc);
+        if options.no_kernel {
+            return Ok(numbers);
+        }
+        let mut addresses = Vec::new(alloc);
+        push_kernel_frames(alloc, &mut addresses, &sample.call_chain)?;
+        for address in &addresses {
+            let number = self.kernel_frame_number::<F>(alloc, files, options.addresses, *address)?;
+            numbers.push(number)?;
+        }
+        Ok(numbers)
+    }
+
+    /// The number of what a walk has in place of its outermost frame.
+    pub(crate) fn end_number(&mut self, end: WalkEnd) -> Result<Option<u32>, AllocError> {
+        match end_text(end) {
+            Some(text) => Ok(Some(self.number_of(text)?)),
+            None => Ok(None),
+        }
+    }
+}
