@@ -1,0 +1,9 @@
+pub mod Bytes
+pub mod Dynamic
+pub mod DynamicFunctions
+pub mod DynamicSymbols
+pub mod DynamicViews
+pub mod HashTables
+pub mod SegmentViews
+pub mod Segments
+pub mod TableSymbols
