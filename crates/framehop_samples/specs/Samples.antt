@@ -26,7 +26,7 @@ abbrev if_readable : KnownWord → Option ℕ
 if_readable known = if known.is_readable == 0 then None else Some known.word
 
 -- what the list says of the word at an address
-abbrev word_listed : Sample → ℕ → Option ℕ
+abbrev pub word_listed : Sample → ℕ → Option ℕ
 word_listed sample address =
     elim (place_listed sample address) [ Some place ↦ if_readable (slice_index_or sample.known.now place unreadable) | None ↦ None ]
 

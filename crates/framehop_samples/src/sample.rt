@@ -2,7 +2,7 @@
 
 ghost use Rattle.std.specs.Prelude.{◌≡◌};
 ghost use Rattle.framehop_registers.specs.Callback.{read_answer};
-ghost use Rattle.framehop_samples.specs.Samples.{is_known, place_listed, word_copied, words_of};
+ghost use Rattle.framehop_samples.specs.Samples.{is_known, place_listed, word_copied, word_listed, words_of};
 
 /// What is known of the word at an address.
 #[derive(Clone, Copy)]
@@ -97,6 +97,16 @@ impl AskedSample<'_, '_> {
         if let Some(word) = self.sample.copied(address) {
             return Ok(word);
         }
+        self.listed(address)
+    }
+
+    // What the list says of the word at an address. An address that it hasn't is noted.
+    #[cold]
+    #[inline(never)]
+    fn listed(&mut self, address: u64) -> Result<u64, ()>
+        ensures answer { result ≡ read_answer (word_listed self.old.sample.now address) }
+        ensures sample { self.new.sample ≡ self.old.sample }
+    {
         let Some(place) = self.sample.place_of(address) else {
             if self.wanted.is_none() {
                 self.wanted = Some(address);

@@ -1,6 +1,6 @@
 //! Steps over a sample.
 
-ghost use Rattle.std.specs.Prelude.{◌≡◌, false, true, IfSome};
+ghost use Rattle.std.specs.Prelude.{◌≡◌, ◌≢◌, false, true, IfSome};
 ghost use Rattle.framehop_registers.specs.Callback.{read_answer};
 ghost use Rattle.framehop_unwinder.specs.Frames.{frame_of};
 ghost use Rattle.framehop_unwinder.specs.IdViews.{StepsBy, has_both, modules_by};
@@ -81,14 +81,40 @@ pub fn step_in_sample<A: ModuleUnwinding>(
     ensures caches { CountsBy A.meanings result address unwinder cache session.old session.new }
     ensures memory { A.takes_memory ≡ false → TakesNoMemory result }
 {
+    if sample.asks != 0 {
+        return step_or_need(session, unwinder, cache, address, regs, sample);
+    }
     let mut asked = AskedSample {
         sample,
         wanted: None,
     };
-    if sample.asks == 0 {
-        let step = step_by_asked(session, unwinder, cache, address, regs, &mut asked);
-        return SampleStep::Answered(step);
-    }
+    let step = step_by_asked(session, unwinder, cache, address, regs, &mut asked);
+    SampleStep::Answered(step)
+}
+
+// Makes a step over a sample that asks for words. Of one that was asked for and isn't known the registers are those before.
+#[inline(never)]
+fn step_or_need<A: ModuleUnwinding>(
+    session: &mut Session<A>,
+    unwinder: UnwinderId,
+    cache: CacheId,
+    address: FrameAddress,
+    regs: &mut A::UnwindRegs,
+    sample: &Sample<'_>,
+) -> SampleStep
+    requires both { has_both session.old unwinder cache ≡ true }
+    requires asks { sample.now.asks ≢ 0 }
+    ensures step { SampleSteps result regs.old regs.new
+        (outcome_in A.meanings session.old unwinder address regs.old sample.now) }
+    ensures asks { AsksAsSaid result sample.now }
+    ensures session { KeepsModules session.old session.new }
+    ensures caches { CountsBy A.meanings result address unwinder cache session.old session.new }
+    ensures memory { A.takes_memory ≡ false → TakesNoMemory result }
+{
+    let mut asked = AskedSample {
+        sample,
+        wanted: None,
+    };
     let before = *regs;
     let step = step_by_asked(session, unwinder, cache, address, regs, &mut asked);
     match needed(sample, asked.wanted) {

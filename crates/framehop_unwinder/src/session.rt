@@ -321,6 +321,7 @@ impl<A: ModuleUnwinding> Session<A> {
     }
 
     /// Makes the step of an unwinder from a frame with these registers, with any of the caches.
+    #[inline(always)]
     pub fn step<F: FnMut(u64) -> Result<u64, ()>>(
         &mut self,
         unwinder: UnwinderId,

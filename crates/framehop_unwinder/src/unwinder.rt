@@ -142,7 +142,7 @@ fn keep<R: UnwindRule>(
 }
 
 // Makes the step that a module's answer gives.
-#[inline(always)]
+#[inline(never)]
 #[tactic(auto, using(crate::proofs::Steps::rules_want_none))]
 fn execute<A: ModuleUnwinding, F: FnMut(u64) -> Result<u64, ()>>(
     answer: Result<UnwindResult<A::UnwindRule>, UnwindFailure>,
@@ -234,6 +234,7 @@ impl<A: ModuleUnwinding> UnwinderInternal<A> {
     }
 
     // Makes the step from a frame that is looked up by an address.
+    #[inline(always)]
     #[tactic(auto, using(crate::proofs::Steps::rules_want_none))]
     fn step<F: FnMut(u64) -> Result<u64, ()>>(
         &self,
@@ -354,6 +355,7 @@ impl<A: ModuleUnwinding> Unwinder for UnwinderInternal<A> {
         }
     }
 
+    #[inline(always)]
     fn unwind_frame<F: FnMut(u64) -> Result<u64, ()>>(
         &self,
         address: FrameAddress,

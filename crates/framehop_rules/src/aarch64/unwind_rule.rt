@@ -292,6 +292,7 @@ impl UnwindRule for UnwindRuleAarch64 {
         true
     }
 
+    #[inline(always)]
     fn exec<F: FnMut(u64) -> Result<u64, ()>>(
         self,
         is_first_frame: bool,

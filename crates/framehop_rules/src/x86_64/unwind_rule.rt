@@ -281,6 +281,7 @@ impl UnwindRule for UnwindRuleX86_64 {
         }
     }
 
+    #[inline(always)]
     fn exec<F: FnMut(u64) -> Result<u64, ()>>(
         self,
         is_first_frame: bool,
