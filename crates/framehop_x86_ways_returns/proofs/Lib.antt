@@ -1,0 +1,4 @@
+pub mod Wrapped
+pub mod Words
+pub mod Held
+pub mod RuleReturns
