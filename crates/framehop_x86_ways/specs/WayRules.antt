@@ -1,5 +1,5 @@
 -- The unwind rule of a way, by what RSP and RBP hold after it, and where the return address is.
-use Rattle.std.specs.Prelude.{ℕ, ◌≡◌, ◌*◌, ◌*ℤ◌, ◌/◌, ◌%◌, ◌^◌, ◌==◌, ◌&&◌, nat_lt, Bool, false, if◌then◌else◌, ℤ, pos, negsuc, ◌-ℤ◌, ◌≤ℤ◌, List, Option, Some, None, option_and_then, option_map}
+use Rattle.std.specs.Prelude.{ℕ, ◌≡◌, ◌*◌, ◌*ℤ◌, ◌/◌, ◌%◌, ◌^◌, ◌==◌, ◌&&◌, not, nat_lt, Bool, false, if◌then◌else◌, ℤ, pos, negsuc, ◌-ℤ◌, ◌≤ℤ◌, List, Option, Some, None, option_and_then, option_map}
 use Rattle.framehop_rules.specs.declared.x86_64.unwind_rule.UnwindRuleX86_64.{UnwindRuleX86_64}
 use Rattle.framehop_rules.specs.declared.x86_64.unwind_rule.UnwindRuleX86_64.TheVariants.{JustReturn, OffsetSp, OffsetSpAndRestoreBp, UseFramePointer}
 use Rattle.framehop_ways.specs.declared.executed.Bounds.{Bounds}
@@ -45,10 +45,11 @@ abbrev pub rule_by_words : Value → ℕ → Option UnwindRuleX86_64
 rule_by_words fp words =
     if is_address fp FramePointer (pos 0) then Some (rule_with_kept_fp words) else option_map (λ at. OffsetSpAndRestoreBp words at) (stored_words fp)
 
--- The rule for an RSP that goes up by so many bytes, below which the return address is.
+-- The rule for an RSP that goes up by so many bytes, below which the return address is, which isn't below RSP now.
 abbrev pub rule_by_sp : Returned → ℤ → Option UnwindRuleX86_64
 rule_by_sp left bytes =
-    option_and_then (λ words. if is_word left.return_address StackPointer (bytes -ℤ pos 8) then rule_by_words left.fp words else None) (words_of bytes)
+    option_and_then (λ words.
+    if not (words == 0) && is_word left.return_address StackPointer (bytes -ℤ pos 8) then rule_by_words left.fp words else None) (words_of bytes)
 
 -- The rule for an RSP that is so many bytes above RBP, where RBP is stored, with the return address above it.
 abbrev pub rule_by_fp : Returned → ℤ → Option UnwindRuleX86_64

@@ -2,7 +2,7 @@
 use Rattle.std.specs.List.{AllByRecursion, list_any}
 use Rattle.std.specs.Prelude.{ℕ, ◌≡◌, ◌≢◌, ◌&&◌, ◌||◌, ◌==◌, not, Bool, true, false, IsTrue, ℤ, pos, negsuc, List, [], ◌∷◌, ◌++◌, Option, Some, None, is_none, option_and_then}
 use Rattle.framehop_registers.specs.declared.x86_64.unwindregs.Reg.{Reg}
-use Rattle.framehop_registers.specs.declared.x86_64.unwindregs.Reg.TheVariants.{RBP}
+use Rattle.framehop_registers.specs.declared.x86_64.unwindregs.Reg.TheVariants.{RBX, RBP, R12, R13, R14, R15}
 use Rattle.framehop_ways.specs.declared.executed.Bounds.{Bounds}
 use Rattle.framehop_x86_instructions.specs.declared.address.Base.TheVariants.{StackPointer, FramePointer}
 use Rattle.framehop_x86_instructions.specs.declared.effect.Effect.{Effect}
@@ -15,15 +15,21 @@ use Rattle.framehop_x86_ways.specs.declared.values.Value.{Value}
 use Rattle.framehop_x86_ways.specs.declared.values.Value.TheVariants.{Address}
 use Rattle.framehop_x86_ways.specs.declared.values.Values.{Values}
 
--- Whether an instruction pops RBP.
-abbrev pub is_fp : Reg → Bool
-is_fp RBP = true
-is_fp other = false
+-- Whether an instruction pops a register that functions save by each calling convention (System V ABI, figure 3.4; Microsoft's 'x64 ABI
+-- conventions').
+abbrev pub is_saved : Reg → Bool
+is_saved RBX = true
+is_saved RBP = true
+is_saved R12 = true
+is_saved R13 = true
+is_saved R14 = true
+is_saved R15 = true
+is_saved other = false
 
-abbrev pub pops_fp : Effect → Bool
-pops_fp (Pop (Some register)) = is_fp register
-pops_fp Leave = true
-pops_fp other = false
+abbrev pub pops_saved : Effect → Bool
+pops_saved (Pop (Some register)) = is_saved register
+pops_saved Leave = true
+pops_saved other = false
 
 -- Whether a number is above 0.
 abbrev pub is_above_0 : ℤ → Bool
@@ -40,9 +46,9 @@ abbrev pub is_raised : Option (Values × List Saved) → Bool
 is_raised None = false
 is_raised (Some held) = is_higher held.0.sp
 
--- Whether instructions restored something of the caller: they popped RBP, or raised RSP above what it is now.
+-- Whether instructions restored something of the caller: they popped such a register, or raised RSP above what it is now.
 abbrev pub restored : List Executed → Bool
-restored before = list_any (λ one. pops_fp one.instruction.effect) before || is_raised (held_after_way before)
+restored before = list_any (λ one. pops_saved one.instruction.effect) before || is_raised (held_after_way before)
 
 -- How a function is left: by a return; by a jump to what no instruction tells, or to what is no place of the text, as a stub, if
 -- something was restored.

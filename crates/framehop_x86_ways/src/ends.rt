@@ -2,7 +2,7 @@
 ghost use Rattle.std.specs.Prelude.{◌≡◌, ◌<◌, ◌≤◌, ◌^◌, ◌++◌};
 ghost use Rattle.std.specs.List.{list_any};
 ghost use Rattle.framehop_x86_ways.specs.Places.{IsInText};
-ghost use Rattle.framehop_x86_ways.specs.Ways.{pops_fp, is_higher, is_raised, restored, is_outside, leaves};
+ghost use Rattle.framehop_x86_ways.specs.Ways.{is_saved, pops_saved, is_higher, is_raised, restored, is_outside, leaves};
 ghost use Rattle.framehop_x86_ways.specs.Values.{held_after_way};
 
 use crate::executed::{Executed, instruction_at, place_branched_to};
@@ -10,12 +10,23 @@ use crate::values::{Held, Value};
 use framehop_registers::x86_64::Reg;
 use framehop_x86_instructions::{Base, Effect};
 
-// Whether an instruction pops RBP.
-fn pops_fp(effect: Effect) -> bool
-    ensures { result ≡ pops_fp effect }
+// Whether functions save a register by each calling convention.
+fn is_saved(register: Reg) -> bool
+    ensures { result ≡ is_saved register }
+{
+    match register {
+        Reg::RBX | Reg::RBP | Reg::R12 | Reg::R13 | Reg::R14 | Reg::R15 => true,
+        _ => false,
+    }
+}
+
+// Whether an instruction pops such a register.
+fn pops_saved(effect: Effect) -> bool
+    ensures { result ≡ pops_saved effect }
 {
     match effect {
-        Effect::Pop(Some(Reg::RBP)) | Effect::Leave => true,
+        Effect::Pop(Some(register)) => is_saved(register),
+        Effect::Leave => true,
         _ => false,
     }
 }
@@ -47,18 +58,18 @@ fn is_raised(before: &[Executed]) -> bool
     }
 }
 
-// Whether one of some instructions pops RBP.
-fn has_popped_fp(before: &[Executed]) -> bool
-    ensures { result ≡ list_any (λ one. pops_fp one.instruction.effect) before.now }
+// Whether one of some instructions does.
+fn has_popped(before: &[Executed]) -> bool
+    ensures { result ≡ list_any (λ one. pops_saved one.instruction.effect) before.now }
 {
-    before.iter().any(|one| pops_fp(one.instruction.effect))
+    before.iter().any(|one| pops_saved(one.instruction.effect))
 }
 
 // Whether instructions restored something of the caller.
 fn restored(before: &[Executed]) -> bool
     ensures { result ≡ restored before.now }
 {
-    has_popped_fp(before) || is_raised(before)
+    has_popped(before) || is_raised(before)
 }
 
 // Whether a jump leads to no place of the text.

@@ -97,7 +97,7 @@ fn rule_by_sp(left: Returned, bytes: i32) -> Option<UnwindRuleX86_64>
     ensures is { IfSome result (λ rule. IsRuleOf left rule) }
 {
     let words = words_of(bytes)?;
-    if is_word(left.return_address, Base::StackPointer, bytes - 8) {
+    if words > 0 && is_word(left.return_address, Base::StackPointer, bytes - 8) {
         rule_by_words(left, words)
     } else {
         None
