@@ -1,0 +1,3 @@
+pub mod EndedThreads
+pub mod Kept
+pub mod Weighing

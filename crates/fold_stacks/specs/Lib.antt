@@ -1,11 +1,14 @@
+pub mod Comms
 pub mod Concerns
 pub mod CountedStacks
 pub mod FoldingStates
 pub mod Foldings
 pub mod FrameTexts
 pub mod Frames
+pub mod KeptNumbers
 pub mod RecordChanges
 pub mod Selections
 pub mod Stacks
 pub mod Taken
 pub mod Walks
+pub mod Weights

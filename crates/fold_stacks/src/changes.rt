@@ -1,10 +1,11 @@
 //! What records say that changes processes.
 
-ghost use Rattle.std.specs.Prelude.{◌≡◌, IfOk, Ok};
+ghost use Rattle.std.specs.Prelude.{◌≡◌, IfOk, None, Ok, OnOk};
 ghost use Rattle.perf_files.specs.MappingViews.{mapping_seen};
 ghost use Rattle.perf_files.specs.RecordViews.{record_seen};
 ghost use Rattle.perf_files.specs.TaskViews.{command_seen};
 ghost use Rattle.perf_files.specs.declared.record.RecordKind.TheVariants as kind;
+ghost use Rattle.fold_stacks.specs.KeptNumbers.{HasName, KeepsNumbers, name_number};
 ghost use Rattle.fold_stacks.specs.RecordChanges.{change_by, command_change, mapped_file, number_in};
 
 use crate::error::FoldError;
@@ -47,7 +48,8 @@ fn mapping_change<F: SampledFiles>(
     record: &Record<'_>,
     attributes: &Attributes,
 ) -> Result<Option<Change>, FoldError>
-    ensures { IfOk result (λ change. change_by kind.Mapping attributes.now (record_seen record.now) (number_in change) ≡ Ok change) }
+    ensures change { IfOk result (λ change. change_by kind.Mapping attributes.now (record_seen record.now) (number_in change) ≡ Ok change) }
+    ensures unnamed { IfOk result (λ change. name_number change ≡ None) }
 {
     let mapping = Mapping::parse(record, attributes)?;
     if !mapping.executable {
@@ -58,12 +60,15 @@ fn mapping_change<F: SampledFiles>(
 }
 
 // What a name changes.
+#[tactic(auto, using(crate::proofs::Kept::kept_numbers))]
 fn command_change(
     names: &mut FrameNames,
     record: &Record<'_>,
     attributes: &Attributes,
 ) -> Result<Option<Change>, FoldError>
-    ensures { IfOk result (λ change. change_by kind.Command attributes.now (record_seen record.now) (number_in change) ≡ Ok change) }
+    ensures change { IfOk result (λ change. change_by kind.Command attributes.now (record_seen record.now) (number_in change) ≡ Ok change) }
+    ensures names { OnOk result (KeepsNumbers names.old names.new) }
+    ensures named { IfOk result (λ change. HasName attributes.now (record_seen record.now) names.new change) }
 {
     let command = Command::parse(record, attributes)?;
     let name = names.number_of(command.name)?;
@@ -78,7 +83,9 @@ pub fn change_of<F: SampledFiles>(
     record: &Record<'_>,
     attributes: &Attributes,
 ) -> Result<Option<Change>, FoldError>
-    ensures { IfOk result (λ change. change_by record.now.kind attributes.now (record_seen record.now) (number_in change) ≡ Ok change) }
+    ensures change { IfOk result (λ change. change_by record.now.kind attributes.now (record_seen record.now) (number_in change) ≡ Ok change) }
+    ensures names { OnOk result (KeepsNumbers names.old names.new) }
+    ensures named { IfOk result (λ change. HasName attributes.now (record_seen record.now) names.new change) }
 {
     match record.kind {
         RecordKind::Mapping | RecordKind::Mapping2 => {
