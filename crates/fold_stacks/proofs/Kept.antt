@@ -1,5 +1,5 @@
 -- Names keep their numbers.
-use Rattle.std.proofs.Common.{◌≡◌, ℕ, zero, suc, List, [], ◌∷◌, ◌++◌, inl, inr, Option, Some, None}
+use Rattle.std.proofs.Common.{◌≡◌, ℕ, zero, suc, List, [], ◌∷◌, ◌++◌, inl, inr, Some}
 use Rattle.std.specs.Prelude.{slice_get}
 use Rattle.folded_stacks.specs.FrameNames.{HasAtMostOneMore}
 use Rattle.fold_stacks.specs.KeptNumbers.{KeepsNumbers}

@@ -1,5 +1,5 @@
 -- Weights that were found are those of the record.
-use Rattle.std.proofs.Common.{◌≡◌, ◌∙◌, ℕ, Bool, true, false, cond, List, Option, Some, None, ap, sym}
+use Rattle.std.proofs.Common.{◌≡◌, ◌∙◌, ℕ, Bool, true, false, cond, List, Some, None, ap, sym}
 use Rattle.std.specs.Prelude.{Ok}
 use Rattle.fold_options.specs.declared.options.FoldOptions.{FoldOptions}
 use Rattle.perf_files.specs.FieldResults.{FieldResult, and_then}

@@ -18,11 +18,12 @@ name_number (Some (Named named)) = named.name
 name_number (Some (Executed named)) = named.name
 name_number _ = None
 
--- A number in a change is that of the name in its record.
-abbrev pub HasName : Attributes → RecordParts → List (List ℕ) → Option Change → Type 0
-HasName attributes found names change =
-    IfSome (name_number change) (λ number. IfOk (command_of attributes found) (λ command. slice_get names number ≡ Some command.name))
+-- Names keep their numbers, and a number in a change is that of the name in its record.
+abbrev pub IsNamed : Attributes → RecordParts → List (List ℕ) → List (List ℕ) → Option Change → Type 0
+IsNamed attributes found old new change =
+    KeepsNumbers old new
+    × IfSome (name_number change) (λ number. IfOk (command_of attributes found) (λ command. slice_get new number ≡ Some command.name))
 
 -- The same by the event that the record is of.
-abbrev pub SaysName : List Event → RecordParts → List (List ℕ) → Option Change → Type 0
-SaysName events found names change = IsOfEvent events found (λ index event. HasName event.attributes found names change)
+abbrev pub SaysName : List Event → RecordParts → List (List ℕ) → List (List ℕ) → Option Change → Type 0
+SaysName events found old new change = IsOfEvent events found (λ index event. IsNamed event.attributes found old new change)

@@ -7,8 +7,10 @@ pub mod FrameTexts
 pub mod Frames
 pub mod KeptNumbers
 pub mod RecordChanges
+pub mod Recordings
 pub mod Selections
 pub mod Stacks
 pub mod Taken
+pub mod ThreadNames
 pub mod Walks
 pub mod Weights

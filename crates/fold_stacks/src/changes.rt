@@ -1,11 +1,11 @@
 //! What records say that changes processes.
 
-ghost use Rattle.std.specs.Prelude.{◌≡◌, IfOk, None, Ok, OnOk};
+ghost use Rattle.std.specs.Prelude.{◌≡◌, IfOk, None, Ok};
 ghost use Rattle.perf_files.specs.MappingViews.{mapping_seen};
 ghost use Rattle.perf_files.specs.RecordViews.{record_seen};
 ghost use Rattle.perf_files.specs.TaskViews.{command_seen};
 ghost use Rattle.perf_files.specs.declared.record.RecordKind.TheVariants as kind;
-ghost use Rattle.fold_stacks.specs.KeptNumbers.{HasName, KeepsNumbers, name_number};
+ghost use Rattle.fold_stacks.specs.KeptNumbers.{IsNamed, name_number};
 ghost use Rattle.fold_stacks.specs.RecordChanges.{change_by, command_change, mapped_file, number_in};
 
 use crate::error::FoldError;
@@ -67,8 +67,7 @@ fn command_change(
     attributes: &Attributes,
 ) -> Result<Option<Change>, FoldError>
     ensures change { IfOk result (λ change. change_by kind.Command attributes.now (record_seen record.now) (number_in change) ≡ Ok change) }
-    ensures names { OnOk result (KeepsNumbers names.old names.new) }
-    ensures named { IfOk result (λ change. HasName attributes.now (record_seen record.now) names.new change) }
+    ensures names { IfOk result (λ change. IsNamed attributes.now (record_seen record.now) names.old names.new change) }
 {
     let command = Command::parse(record, attributes)?;
     let name = names.number_of(command.name)?;
@@ -84,8 +83,7 @@ pub fn change_of<F: SampledFiles>(
     attributes: &Attributes,
 ) -> Result<Option<Change>, FoldError>
     ensures change { IfOk result (λ change. change_by record.now.kind attributes.now (record_seen record.now) (number_in change) ≡ Ok change) }
-    ensures names { OnOk result (KeepsNumbers names.old names.new) }
-    ensures named { IfOk result (λ change. HasName attributes.now (record_seen record.now) names.new change) }
+    ensures names { IfOk result (λ change. IsNamed attributes.now (record_seen record.now) names.old names.new change) }
 {
     match record.kind {
         RecordKind::Mapping | RecordKind::Mapping2 => {

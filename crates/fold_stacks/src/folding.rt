@@ -1,13 +1,13 @@
 //! The folded stacks of the records so far.
 
-ghost use Rattle.std.specs.Prelude.{◌≡◌, IfOk, None, OnOk, map};
+ghost use Rattle.std.specs.Prelude.{◌≡◌, IfOk, None, map};
 ghost use Rattle.folded_stacks.specs.LineViews.{line_seen};
 ghost use Rattle.perf_files.specs.RecordViews.{record_seen};
 ghost use Rattle.perf_files.specs.declared.record.RecordKind.TheVariants as kind;
 ghost use Rattle.fold_stacks.specs.CountedStacks.{lines_in};
 ghost use Rattle.fold_stacks.specs.FoldingStates.{nothing_folded};
 ghost use Rattle.fold_stacks.specs.Foldings.{IsChange, KeepsEndedIf, SaysChange, after_if};
-ghost use Rattle.fold_stacks.specs.KeptNumbers.{HasName, KeepsNumbers, SaysName};
+ghost use Rattle.fold_stacks.specs.KeptNumbers.{IsNamed, SaysName};
 ghost use Rattle.fold_stacks.specs.Taken.{change_in, counted_if, counted_in, weight_in};
 ghost use Rattle.fold_stacks.specs.Weights.{IsWeight, SaysWeight, event_name};
 
@@ -94,7 +94,8 @@ impl<A: SampleArch> Folding<A> {
         ensures change { IfOk result (λ taken. IsChange kind.Sample attributes.now (record_seen record.now) (change_in taken)) }
         ensures processes { IfOk result (λ taken. self.new.processes ≡ after_if (change_in taken) self.old.processes) }
         ensures ended { IfOk result (λ taken. KeepsEndedIf (change_in taken) self.old self.new) }
-        ensures names { OnOk result (KeepsNumbers self.old.comms.names self.new.comms.names) }
+        ensures names { IfOk result (λ taken.
+            IsNamed attributes.now (record_seen record.now) self.old.comms.names self.new.comms.names (change_in taken)) }
         ensures counts { IfOk result (λ taken. self.new.stacks.counts ≡ counted_if (counted_in taken) self.old.stacks.counts) }
         ensures weight { IfOk result (λ taken.
             IsWeight options.now self.old event.now attributes.now record.now.payload.now (weight_in taken)) }
@@ -129,8 +130,8 @@ impl<A: SampleArch> Folding<A> {
         ensures change { IfOk result (λ taken. IsChange record.now.kind attributes.now (record_seen record.now) (change_in taken)) }
         ensures processes { IfOk result (λ taken. self.new.processes ≡ after_if (change_in taken) self.old.processes) }
         ensures ended { IfOk result (λ taken. KeepsEndedIf (change_in taken) self.old self.new) }
-        ensures names { OnOk result (KeepsNumbers self.old.comms.names self.new.comms.names) }
-        ensures named { IfOk result (λ taken. HasName attributes.now (record_seen record.now) self.new.comms.names (change_in taken)) }
+        ensures names { IfOk result (λ taken.
+            IsNamed attributes.now (record_seen record.now) self.old.comms.names self.new.comms.names (change_in taken)) }
         ensures counts { IfOk result (λ taken. self.new.stacks.counts ≡ counted_if (counted_in taken) self.old.stacks.counts) }
         ensures weight { IfOk result (λ taken. weight_in taken ≡ None) }
     {
@@ -157,8 +158,8 @@ impl<A: SampleArch> Folding<A> {
         ensures change { IfOk result (λ taken. SaysChange events.entry.events.now (record_seen record.now) (change_in taken)) }
         ensures processes { IfOk result (λ taken. self.new.processes ≡ after_if (change_in taken) self.old.processes) }
         ensures ended { IfOk result (λ taken. KeepsEndedIf (change_in taken) self.old self.new) }
-        ensures names { OnOk result (KeepsNumbers self.old.comms.names self.new.comms.names) }
-        ensures named { IfOk result (λ taken. SaysName events.entry.events.now (record_seen record.now) self.new.comms.names (change_in taken)) }
+        ensures names { IfOk result (λ taken.
+            SaysName events.entry.events.now (record_seen record.now) self.old.comms.names self.new.comms.names (change_in taken)) }
         ensures counts { IfOk result (λ taken. self.new.stacks.counts ≡ counted_if (counted_in taken) self.old.stacks.counts) }
         ensures weight { IfOk result (λ taken. SaysWeight options.now events.entry self.old (record_seen record.now) (weight_in taken)) }
     {
