@@ -241,7 +241,13 @@ BARE = {
     "no-file-clang": (SIGNALS, "clang", ["-O2"], [], [NO_FILE]),
     "no-file-threads": (THREADS, "gcc", ["-O2", "-fomit-frame-pointer", "-pthread"], [], [NO_FILE]),
     "no-file-no-headers": (DOWN, "gcc", ["-O2", "-fomit-frame-pointer", "-no-pie"], ["20"], [NO_HEADERS, NO_FILE]),
+    "exported": (DOWN, "gcc", ["-O2", "-fomit-frame-pointer", "-fno-reorder-blocks-and-partition", "-rdynamic"], ["20"], [NO_HEADERS]),
+    "exported-sysv": (SIGNALS, "clang", ["-O2", "-rdynamic", "-Wl,--hash-style=sysv"], [], [NO_HEADERS]),
+    "exported-no-file": (DOWN, "clang", ["-O2", "-fomit-frame-pointer", "-rdynamic"], ["20"], [NO_FILE]),
+    "exported-no-pie": (DOWN, "gcc", ["-O1", "-no-pie", "-rdynamic"], ["20"], [NO_HEADERS, NO_FILE]),
 }
+# Those whose functions are symbols for dynamic linking, by which they are named then.
+EXPORTED = {name for name in BARE if name.startswith("exported")}
 
 # Each program that a signal ends, whose core Linux makes. eu-stack isn't asked: it leaves out the caller of an address without code.
 ENDED = {

@@ -1,4 +1,4 @@
-"""Instructions of x86_64, each as GNU's assembler writes it and as objdump 2.40 reads it, for the worked cases of `cases_code`."""
+"""Instructions of x86_64, each as GNU's assembler writes it and as objdump 2.40 reads it, for the worked cases of `cases_files`."""
 
 # The bytes, and the text that they were assembled from.
 INSTRUCTIONS = """

@@ -1,6 +1,7 @@
 //! A core, as the system gives it: in parts, so that the pages of stacks that were never used take no memory. They are most of a
 //! core of many threads.
 
+use crate::progress::Progress;
 use anyhow::Result;
 use core_files::SegmentBytes;
 use elf_files::{ElfError, ElfFile, FileKind, Segment, SegmentKind};
@@ -83,15 +84,17 @@ fn read_segment(rt: &HostRuntime, file: &File, offset: u64, size: u64) -> Result
     Ok(bytes)
 }
 
-// The bytes of the segments that are read, at the index of each, as far as the file of this size has them.
+// The bytes of the segments that are read, at the index of each, as far as the file of this size has them. Shows how many were read.
 fn read_segments(
     rt: &HostRuntime,
     file: &File,
     elf: &ElfFile<'_>,
     size: u64,
+    progress: Progress,
 ) -> Result<Vec<SegmentBytes>> {
     let mut segments = Vec::new(rt.alloc());
     for index in 0..elf.segment_count() {
+        progress.show(rt, index as usize);
         let segment = elf.segment(index)?;
         segments.push(if is_read(&segment) {
             read_segment(rt, file, segment.offset, size_left(&segment, size))?
@@ -125,7 +128,11 @@ pub(crate) fn read_parts(rt: &HostRuntime, path: &str) -> Result<Option<CorePart
     };
     match segments_size(&elf, size) {
         Ok(all) if end.saturating_add(all) <= size => {
-            let segments = read_segments(rt, &file, &elf, size)?;
+            let count = elf.segment_count() as usize;
+            let progress = Progress::new(rt, "segments of the core", count);
+            let segments = read_segments(rt, &file, &elf, size, progress);
+            progress.clear(rt);
+            let segments = segments?;
             Ok(Some(CoreParts { head, segments }))
         }
         _ => Ok(None),

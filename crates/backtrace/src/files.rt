@@ -1,6 +1,7 @@
 //! The files that are mapped into a core's process, as the system gives them.
 
 use crate::arguments::CoreRequest;
+use crate::progress::Progress;
 use backtrace_files::{GivenFile, build_id_of, has_other_build_id, is_debug_file_of};
 use core_files::{CoreFile, MappedFile};
 use core_images::file_image;
@@ -181,19 +182,54 @@ fn read_with_debug<'a>(
     Ok(NamedFile { debug, ..file })
 }
 
+// Whether a name is among others.
+fn is_among(names: &[&[u8]], name: &[u8]) -> bool {
+    for other in names {
+        if *other == name {
+            return true;
+        }
+    }
+    false
+}
+
+// The names of the files of mappings, each once.
+fn file_names<'a>(alloc: Global, mappings: &[MappedFile<'a>]) -> Result<Vec<&'a [u8]>, AllocError> {
+    let mut names = Vec::new(alloc);
+    for mapping in mappings {
+        if !is_among(names.as_slice(), mapping.name) {
+            names.push(mapping.name)?;
+        }
+    }
+    Ok(names)
+}
+
+// Reads the files of these names and their debug files, and shows how many were read.
+fn read_named<'a>(
+    rt: &HostRuntime,
+    request: &CoreRequest<'_>,
+    core: &CoreFile<'_>,
+    names: &[&'a [u8]],
+    progress: Progress,
+) -> Result<Vec<NamedFile<'a>>, AllocError> {
+    let mut files = Vec::new(rt.alloc());
+    for (number, name) in names.iter().enumerate() {
+        progress.show(rt, number);
+        files.push(read_with_debug(rt, request, core, *name)?)?;
+    }
+    Ok(files)
+}
+
 /// Reads the files that a core names, each once, and their debug files.
 pub(crate) fn read_files<'a>(
     rt: &HostRuntime,
     request: &CoreRequest<'_>,
     core: &CoreFile<'a>,
 ) -> Result<Vec<NamedFile<'a>>, AllocError> {
-    let mut files = Vec::new(rt.alloc());
-    for mapping in core.mapped_files() {
-        if file_named(files.as_slice(), mapping.name).is_none() {
-            files.push(read_with_debug(rt, request, core, mapping.name)?)?;
-        }
-    }
-    Ok(files)
+    let names = file_names(rt.alloc(), core.mapped_files())?;
+    let progress = Progress::new(rt, "files", names.len());
+    let files = read_named(rt, request, core, names.as_slice(), progress);
+    progress.clear(rt);
+    files
 }
 
 impl NamedFile<'_> {

@@ -9,6 +9,7 @@ mod arguments;
 mod core_parts;
 mod files;
 mod lint;
+mod progress;
 mod unread;
 
 use anyhow::{Context, Result, bail};

@@ -1,4 +1,4 @@
--- Whether a file is the one that was mapped, by build ids, or its debug file, by its link too.
+-- Build ids: whether a file is the one that was mapped, or its debug file, by its link too.
 use Rattle.std.specs.Prelude.{ℕ, ◌==◌, ◌&&◌, Bool, true, false, not, bytes_eq, if◌then◌else◌, List, Option, Some, None, option_and_then}
 use Rattle.std.specs.List.{find}
 use Rattle.std.specs.Option.{option_or}
@@ -12,7 +12,7 @@ use Rattle.debug_links.specs.Links.{Link, debug_link_of}
 use Rattle.elf_files.specs.BuildIds.{build_id}
 use Rattle.elf_files.specs.Header.{header_of}
 use Rattle.elf_files.specs.declared.header.Header.{Header}
-use Rattle.backtrace_files.specs.SegmentSections.{has_named_sections}
+use Rattle.elf_segments.specs.Segments.{has_named_sections}
 
 -- the file that begins at an address of the first range in which one can
 abbrev pub file_at : List KnownRange → ℕ → Option (List ℕ)

@@ -1,19 +1,15 @@
--- Files that are mapped into a process, and where their code is.
-use Rattle.std.specs.Prelude.{◌≡◌, ℕ, ◌+◌, ◌-◌, ◌*◌, ◌^◌, ◌%◌, ◌==◌, ◌&&◌, Bool, true, false, nat_lt, nat_le, if◌then◌else◌, List, Option, Some, None, option_and_then}
-use Rattle.std.specs.Borrow.{Bor}
-use Rattle.std.specs.List.{find, filter_map}
+-- Mapped files of a process, and where their code is.
+use Rattle.std.specs.Prelude.{ℕ, ◌+◌, ◌-◌, ◌^◌, ◌%◌, ◌==◌, ◌&&◌, Bool, nat_lt, nat_le, if◌then◌else◌, List, Option, Some, None, option_and_then}
+use Rattle.std.specs.List.{filter_map}
 use Rattle.std.specs.Option.{option_map, option_or}
 use Rattle.std.specs.Result.{result_ok}
 use Rattle.core_files.specs.FileViews.{mapped_range}
 use Rattle.core_files.specs.MappedFiles.{FileMapping}
 use Rattle.core_files.specs.Ranges.{KnownRange}
-use Rattle.elf_files.specs.Bytes.{is_within}
 use Rattle.elf_files.specs.Header.{header_of}
-use Rattle.elf_files.specs.Segments.{all_segments}
 use Rattle.elf_files.specs.declared.header.Header.{Header}
 use Rattle.elf_files.specs.declared.segment.Segment.{Segment}
-use Rattle.elf_files.specs.declared.segment.SegmentKind.{SegmentKind}
-use Rattle.elf_files.specs.declared.segment.SegmentKind.TheVariants.{Load}
+use Rattle.elf_segments.specs.Segments.{first_segment, is_load}
 
 -- A mapping of a file, the bytes of the whole file, if they are there, and those of its debug file, if there is one.
 pub record ProcessFile : Type 0 where
@@ -37,11 +33,6 @@ pub record CodeOfFile : Type 0 where
   pub base_svma : ℕ
   pub base_avma : ℕ
 
--- a segment is loaded (PT_LOAD)
-abbrev pub is_load : SegmentKind → Bool
-is_load Load = true
-is_load _ = false
-
 -- a segment has code: it is loaded, and may be executed (PF_X)
 abbrev pub is_code : Segment → Bool
 is_code segment = is_load segment.kind && ((segment.flags % 2) == 1)
@@ -56,15 +47,6 @@ has_code_of mapping segment =
 -- a mapping begins where the page of the file begins in which a segment with code does; a page has 4096 bytes
 abbrev pub begins_with : FileMapping → Segment → Bool
 begins_with mapping segment = has_code_of mapping segment && (segment.offset == mapping.offset + segment.offset % 4096)
-
--- each call of a test answers what holds says of its segment
-abbrev pub Computes : (Bor Segment → Bool → Type 0) → (Segment → Bool) → Type 0
-Computes post holds = (segment : Bor Segment) (answer : Bool) → post segment answer → answer ≡ holds segment.now
-
--- the first segment of a file for which a test holds, if their table is there
-abbrev pub first_segment : (Segment → Bool) → List ℕ → Header → Option Segment
-first_segment test bytes header =
-    if is_within bytes header.segment_table (56 * header.segment_count) then find test (all_segments bytes header) else None
 
 -- the segment with code that a mapping begins with, or else the first of which it has bytes
 abbrev pub code_segment : List ℕ → Header → FileMapping → Option Segment

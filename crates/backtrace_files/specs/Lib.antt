@@ -8,4 +8,3 @@ pub mod Results
 pub mod SectionViews
 pub mod Sections
 pub mod SegmentSections
-pub mod SegmentViews

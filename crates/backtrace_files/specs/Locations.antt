@@ -8,6 +8,8 @@ use Rattle.core_files.specs.MappedFiles.{FileMapping}
 use Rattle.elf_files.specs.Header.{header_of}
 use Rattle.elf_files.specs.Symbols.{NamedSymbol, symbol_for_address}
 use Rattle.elf_files.specs.declared.header.Header.{Header}
+use Rattle.elf_segments.specs.DynamicFunctions.{dynamic_function}
+use Rattle.elf_segments.specs.Segments.{has_named_sections}
 use Rattle.backtrace_files.specs.Files.{CodeOfFile, ProcessFile, loaded_code}
 
 -- an address is mapped from a file
@@ -34,10 +36,19 @@ symbol_in bytes header address = option_and_then (λ symbol. symbol) (result_ok 
 abbrev pub debug_symbol : List ℕ → ℕ → Option NamedSymbol
 debug_symbol bytes address = option_and_then (λ header. symbol_in bytes header address) (result_ok (header_of bytes))
 
+-- the same by the segments of a mapped file without sections whose names can be read: by its symbols for dynamic linking
+abbrev pub dynamic_symbol : CodeOfFile → ℕ → Option NamedSymbol
+dynamic_symbol code address =
+    if has_named_sections code.bytes code.header then None
+    else dynamic_function code.bytes code.header (code.base_avma - code.base_svma) address
+
+-- the same by a mapped file's own symbols: those of its sections, or if these have none, of its segments
+abbrev pub own_symbol : CodeOfFile → ℕ → Option NamedSymbol
+own_symbol code address = option_or (symbol_in code.bytes code.header address) (dynamic_symbol code address)
+
 -- the function of a file at an address of the file: by its debug file, if there is one that has it, or else by its own symbols
 abbrev pub symbol_at : Option (List ℕ) → CodeOfFile → ℕ → Option NamedSymbol
-symbol_at debug code address =
-    option_or (option_and_then (λ bytes. debug_symbol bytes address) debug) (symbol_in code.bytes code.header address)
+symbol_at debug code address = option_or (option_and_then (λ bytes. debug_symbol bytes address) debug) (own_symbol code address)
 
 -- the address in the file of an address in memory, from where the segment with the code begins, in 64 bits
 abbrev pub stated_address : CodeOfFile → ℕ → Option ℕ

@@ -6,8 +6,9 @@ use Rattle.std.specs.declared.ops.Range.{Range}
 use Rattle.elf_files.specs.Sections.{section_bytes, section_named}
 use Rattle.elf_files.specs.declared.header.Header.{Header}
 use Rattle.elf_files.specs.declared.section.Section.{Section}
+use Rattle.elf_segments.specs.Segments.{has_named_sections}
 use Rattle.framehop_modules.specs.Sections.{Sections}
-use Rattle.backtrace_files.specs.SegmentSections.{data_by_segments, has_named_sections, range_by_segments}
+use Rattle.backtrace_files.specs.SegmentSections.{data_by_segments, range_by_segments}
 
 -- a section has call frames, or the table of their entries (LSB, "Special Sections"; DWARF 5, 6.4)
 abbrev pub is_call_frames : List ℕ → Bool

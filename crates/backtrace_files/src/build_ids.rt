@@ -9,10 +9,10 @@ ghost use Rattle.core_files.specs.RangeViews.{ranges_seen};
 ghost use Rattle.backtrace_files.specs.BuildIds.{agree, build_id_at, build_id_of, begins_file, differ, file_at, first_mapping, id_by_segments, id_with_header, id_without_sections, has_other_build_id, is_debug_file_of, is_link_to, readable_id};
 ghost use Rattle.debug_links.specs.LinkViews.{link_seen};
 
-use crate::segments::has_named_sections;
 use core_files::{CoreFile, MappedFile, MemoryRange};
 use debug_links::{DebugLink, checksum_of, debug_link_of};
 use elf_files::{ElfFile, Header};
+use elf_segments::has_named_sections;
 
 /// The bytes of the file that begins at an address, in the first segment in which one can.
 pub(crate) fn file_at<'a>(segments: &[MemoryRange<'a>], address: u64) -> Option<&'a [u8]>

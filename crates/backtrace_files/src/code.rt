@@ -1,14 +1,14 @@
 //! Where the code of a file is loaded.
 
-ghost use Rattle.std.specs.Prelude.{◌≡◌, Bool, option_map};
+ghost use Rattle.std.specs.Prelude.{◌≡◌, option_map};
 ghost use Rattle.core_files.specs.FileViews.{mapping_of};
-ghost use Rattle.elf_files.specs.declared.segment.Segment.{Segment};
-ghost use Rattle.backtrace_files.specs.Files.{Computes, base_by, begins_with, code_in, code_segment, first_segment, has_code_of, is_code, loaded_code};
+ghost use Rattle.backtrace_files.specs.Files.{base_by, begins_with, code_in, code_segment, has_code_of, is_code, loaded_code};
 ghost use Rattle.backtrace_files.specs.FileViews.{code_seen, file_seen};
 
 use crate::loaded_file::LoadedFile;
 use core_files::MappedFile;
 use elf_files::{ElfFile, Segment, SegmentKind};
+use elf_segments::first_segment;
 
 /// A file whose code is mapped into a process.
 #[derive(Clone, Copy, Debug)]
@@ -46,24 +46,6 @@ fn begins_with(mapping: &MappedFile<'_>, segment: &Segment) -> bool
     ensures { result ≡ begins_with (mapping_of mapping.now) segment.now }
 {
     has_code_of(mapping, segment) && segment.offset - segment.offset % PAGE_SIZE == mapping.offset
-}
-
-/// The first segment of a file for which a test holds.
-#[tactic(auto, using(crate::proofs::Entries::entries_more))]
-pub(crate) fn first_segment<F: Fn(&Segment) -> bool>(file: &ElfFile<'_>, test: F) -> Option<Segment>
-    requires { F.IsAlwaysCallable test }
-    ensures { (says : Segment → Bool) → Computes (F.post test) says
-        → result ≡ first_segment says file.now.bytes.now file.now.header }
-{
-    for index in 0..file.segment_count() {
-        let Ok(segment) = file.segment(index) else {
-            return None;
-        };
-        if test(&segment) {
-            return Some(segment);
-        }
-    }
-    None
 }
 
 // The segment with code that a mapping begins with, or else the first of which it has bytes.

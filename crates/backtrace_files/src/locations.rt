@@ -6,13 +6,14 @@ ghost use Rattle.core_files.specs.FileViews.{mapping_of};
 ghost use Rattle.elf_files.specs.SymbolViews.{symbol_seen};
 ghost use Rattle.backtrace_text.specs.FrameViews.{location_view, offset_view};
 ghost use Rattle.backtrace_files.specs.FileViews.{code_seen, file_seen, files_seen};
-ghost use Rattle.backtrace_files.specs.Locations.{debug_symbol, file_at, function_at, function_in, is_mapped, location_of, may_be_code_at, may_have_code, place_in, stated_address, symbol_at, symbol_in};
+ghost use Rattle.backtrace_files.specs.Locations.{debug_symbol, dynamic_symbol, file_at, function_at, function_in, is_mapped, location_of, may_be_code_at, may_have_code, own_symbol, place_in, stated_address, symbol_at, symbol_in};
 
 use crate::code::{LoadedCode, loaded_code};
 use crate::loaded_file::LoadedFile;
 use backtrace_text::{CodeLocation, NamedOffset};
 use core_files::MappedFile;
 use elf_files::{ElfFile, Symbol};
+use elf_segments::{dynamic_function, has_named_sections};
 
 // Whether an address is mapped from a file.
 fn is_mapped(mapping: &MappedFile<'_>, address: u64) -> bool
@@ -82,6 +83,27 @@ fn debug_symbol_if<'a>(debug: Option<&'a [u8]>, address: u64) -> Option<Symbol<'
     }
 }
 
+// The same by the segments of a mapped file without sections whose names can be read.
+fn dynamic_symbol<'a>(code: &LoadedCode<'a>, address: u64) -> Option<Symbol<'a>>
+    ensures { option_map symbol_seen result ≡ dynamic_symbol (code_seen code.now) address }
+{
+    if has_named_sections(&code.file) {
+        return None;
+    }
+    let moved = code.base_avma.saturating_sub(code.base_svma);
+    dynamic_function(&code.file, moved, address)
+}
+
+// The same by a mapped file's own symbols: those of its sections, or if these have none, of its segments.
+fn own_symbol<'a>(code: &LoadedCode<'a>, address: u64) -> Option<Symbol<'a>>
+    ensures { option_map symbol_seen result ≡ own_symbol (code_seen code.now) address }
+{
+    match symbol_in(&code.file, address) {
+        Some(symbol) => Some(symbol),
+        None => dynamic_symbol(code, address),
+    }
+}
+
 // The function of a file at an address of the file: by its debug file, if there is one that has it, or else by its own symbols.
 fn symbol_at<'a>(debug: Option<&'a [u8]>, code: &LoadedCode<'a>, address: u64) -> Option<Symbol<'a>>
     ensures { option_map symbol_seen result
@@ -89,7 +111,7 @@ fn symbol_at<'a>(debug: Option<&'a [u8]>, code: &LoadedCode<'a>, address: u64) -
 {
     match debug_symbol_if(debug, address) {
         Some(symbol) => Some(symbol),
-        None => symbol_in(&code.file, address),
+        None => own_symbol(code, address),
     }
 }
 

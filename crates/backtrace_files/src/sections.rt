@@ -4,8 +4,9 @@ ghost use Rattle.std.specs.Prelude.{◌≡◌};
 ghost use Rattle.std.specs.Option.{option_copied};
 ghost use Rattle.backtrace_files.specs.Sections.{data_named, data_of, is_call_frames, range_named, range_of};
 
-use crate::segments::{data_by_segments, has_named_sections, range_by_segments};
+use crate::segments::{data_by_segments, range_by_segments};
 use elf_files::ElfFile;
+use elf_segments::has_named_sections;
 use framehop_modules::ModuleSectionInfo;
 use std::ops::Range;
 

@@ -8,7 +8,7 @@ use Rattle.dwarf_frame_rows.specs.Effects.{Limits}
 use Rattle.dwarf_frame_rows.specs.FrameSection.{FrameSection}
 use Rattle.dwarf_frame_rows.specs.Row.{Row}
 use Rattle.dwarf_frame_entries.specs.Entries.{AnyEntry, fde_of_entry}
-use Rattle.backtrace_findings.specs.declared.rows.FailedFde.{FailedFde}
+use Rattle.backtrace_lint.specs.declared.row_lines.FailedFde.{FailedFde}
 use Rattle.backtrace_lint.specs.RowFindings.{failed_among, failed_fdes, failed_read, unsaid_among, unsaid_read, unsaid_rows}
 use Rattle.backtrace_lint.specs.RowViews.{AddsEntry, with_failed}
 use Rattle.backtrace_lint.specs.declared.rows.RowFindings.{RowFindings}

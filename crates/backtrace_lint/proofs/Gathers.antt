@@ -5,7 +5,7 @@ use Rattle.std.proofs.lemmas.List.{append_assoc}
 use Rattle.dwarf_constants.specs.declared.error.Error.{Error}
 use Rattle.dwarf_frame_rows.specs.FrameSection.{FrameSection}
 use Rattle.dwarf_frame_entries.specs.Entries.{AnyEntry}
-use Rattle.backtrace_findings.specs.declared.fdes.ListedFde.{ListedFde}
+use Rattle.backtrace_lint.specs.declared.fdes.ListedFde.{ListedFde}
 use Rattle.backtrace_lint.specs.Faults.{fault_from, fault_of, offset_after}
 use Rattle.backtrace_lint.specs.ListedFdes.{listed_among, listed_entry, listed_fdes, with_listed}
 

@@ -2,14 +2,14 @@
 use Rattle.std.proofs.Common.{◌≡◌, ℕ, ◌+◌, List, [], ◌∷◌, ◌++◌, length, Result, Ok, Err, refl}
 use Rattle.std.specs.Prelude.{codes, decimal}
 use Rattle.json_program.specs.Lines.{line}
-use Rattle.backtrace_findings.specs.HeaderLines.{header_fault_text, header_text, reason_text, rowless_text, rows_text, unordereds_text, untrues_text}
-use Rattle.backtrace_findings.specs.Headers.{rowless_fdes, unordered_rows, untrue_rows}
-use Rattle.backtrace_findings.specs.Lines.{Place, count_text, place_text}
-use Rattle.backtrace_findings.specs.declared.headers.HeaderFault.{HeaderFault}
-use Rattle.backtrace_findings.specs.declared.headers.HeaderRow.{HeaderRow}
-use Rattle.backtrace_findings.specs.declared.headers.LocatedFde.{LocatedFde}
-use Rattle.backtrace_findings.specs.declared.headers.UnorderedRow.{UnorderedRow}
-use Rattle.backtrace_findings.specs.declared.headers.UntrueRow.{UntrueRow}
+use Rattle.backtrace_lint.specs.HeaderLines.{header_fault_text, header_text, reason_text, rowless_text, rows_text, unordereds_text, untrues_text}
+use Rattle.backtrace_lint.specs.HeaderTables.{rowless_fdes, unordered_rows, untrue_rows}
+use Rattle.backtrace_lint.specs.Lines.{Place, count_text, place_text}
+use Rattle.backtrace_lint.specs.declared.header_tables.HeaderFault.{HeaderFault}
+use Rattle.backtrace_lint.specs.declared.header_tables.HeaderRow.{HeaderRow}
+use Rattle.backtrace_lint.specs.declared.header_tables.LocatedFde.{LocatedFde}
+use Rattle.backtrace_lint.specs.declared.header_tables.UnorderedRow.{UnorderedRow}
+use Rattle.backtrace_lint.specs.declared.header_tables.UntrueRow.{UntrueRow}
 
 left-nil : (xs ys : List ℕ) → xs ++ ys ≡ [] → xs ≡ []
 left-nil [] ys is = refl

@@ -13,8 +13,8 @@ use Rattle.dwarf_frame_rows.specs.declared.pointer.Pointer.{Pointer}
 use Rattle.dwarf_frame_rows.specs.declared.pointer.Pointer.TheVariants.{Direct, Indirect}
 use Rattle.dwarf_call_frames.specs.Halving.{TableRow, row_with_start}
 use Rattle.dwarf_call_frames.specs.HeaderTable.{HeaderTable, after_rows, first_table_row, nth_row, pointer_size, row_at, row_at_index, rows_between, without_rows}
-use Rattle.backtrace_findings.specs.declared.headers.HeaderFault.{HeaderFault}
-use Rattle.backtrace_findings.specs.declared.headers.HeaderRow.{HeaderRow}
+use Rattle.backtrace_lint.specs.declared.header_tables.HeaderFault.{HeaderFault}
+use Rattle.backtrace_lint.specs.declared.header_tables.HeaderRow.{HeaderRow}
 use Rattle.backtrace_lint.specs.Headers.{direct_if_there, direct_row, row_read, rows_after, rows_within, with_row}
 use Rattle.backtrace_lint.proofs.Each.{Each, each-any, each-err, each-known, each-ok, each-then}
 

@@ -17,10 +17,10 @@ use Rattle.dwarf_frame_entries.specs.SectionFdes.{fde_in, whole_fdes}
 use Rattle.dwarf_frame_entries.specs.declared.entries.Entry.TheVariants as which
 use Rattle.framehop_errors.specs.declared.cfi_index.DwarfCfiIndexError.TheVariants.{Gimli}
 use Rattle.framehop_index.specs.EntryFor.{fits_index, has_index, index_error, indexed_fdes, is_left_out, left_out as left_out_by_index}
-use Rattle.backtrace_findings.specs.LeftOut.{left_out}
-use Rattle.backtrace_findings.specs.declared.fdes.Fault.{Fault}
-use Rattle.backtrace_findings.specs.declared.fdes.ListedFde.{ListedFde}
-use Rattle.backtrace_findings.specs.declared.left_out.LeftOut.{LeftOut}
+use Rattle.backtrace_lint.specs.LeftOut.{left_out}
+use Rattle.backtrace_lint.specs.declared.fdes.Fault.{Fault}
+use Rattle.backtrace_lint.specs.declared.fdes.ListedFde.{ListedFde}
+use Rattle.backtrace_lint.specs.declared.left_out.LeftOut.{LeftOut}
 use Rattle.backtrace_lint.specs.Faults.{fault_from, fault_of, offset_after}
 use Rattle.backtrace_lint.specs.IndexLaws.{index_fault, is_kept, kept_fdes, left_outs, listed_whole}
 use Rattle.backtrace_lint.specs.ListedFdes.{code_read, listed_among}

@@ -1,3 +1,4 @@
+pub mod Agree
 pub mod Each
 pub mod FoundRows
 pub mod Gathers
@@ -7,8 +8,10 @@ pub mod IndexLaws
 pub mod Keeping
 pub mod Members
 pub mod NamedFdes
+pub mod Overlapping
 pub mod ReadRows
 pub mod Rising
 pub mod RowSteps
+pub mod Sorted
 pub mod TruthfulHeaders
 pub mod TruthfulLines

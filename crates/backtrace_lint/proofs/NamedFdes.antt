@@ -15,11 +15,11 @@ use Rattle.dwarf_frame_entries.specs.SectionFdes.{whole_fdes}
 use Rattle.dwarf_frame_entries.specs.declared.entries.Entry.TheVariants as which
 use Rattle.dwarf_call_frames.specs.Halving.{row_with_start}
 use Rattle.dwarf_call_frames.specs.Truthful.{row_of_fde}
-use Rattle.backtrace_findings.specs.Headers.{is_named, located, located_fdes, rowless_fdes, start_at, start_named, unordered_from, unordered_rows, untrue_from, untrue_if}
-use Rattle.backtrace_findings.specs.declared.headers.HeaderRow.{HeaderRow}
-use Rattle.backtrace_findings.specs.declared.headers.LocatedFde.{LocatedFde}
-use Rattle.backtrace_findings.specs.declared.headers.UnorderedRow.{UnorderedRow}
-use Rattle.backtrace_findings.specs.declared.headers.UntrueRow.{UntrueRow}
+use Rattle.backtrace_lint.specs.HeaderTables.{is_named, located, located_fdes, rowless_fdes, start_at, start_named, unordered_from, unordered_rows, untrue_from, untrue_if}
+use Rattle.backtrace_lint.specs.declared.header_tables.HeaderRow.{HeaderRow}
+use Rattle.backtrace_lint.specs.declared.header_tables.LocatedFde.{LocatedFde}
+use Rattle.backtrace_lint.specs.declared.header_tables.UnorderedRow.{UnorderedRow}
+use Rattle.backtrace_lint.specs.declared.header_tables.UntrueRow.{UntrueRow}
 use Rattle.backtrace_lint.specs.ListedFdes.{code_read, listed_among, listed_fdes}
 use Rattle.backtrace_lint.proofs.Each.{Each}
 use Rattle.backtrace_lint.proofs.HeaderTables.{table_row}

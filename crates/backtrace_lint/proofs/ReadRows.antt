@@ -3,9 +3,9 @@ use Rattle.std.proofs.Common.{◌≡◌, ℕ, suc, ◌+◌, ◌-◌, ◌<◌, Li
 use Rattle.std.proofs.lemmas.List.{append-nil, append_assoc}
 use Rattle.dwarf_constants.specs.declared.error.Error.{Error}
 use Rattle.dwarf_call_frames.specs.HeaderTable.{HeaderTable}
-use Rattle.backtrace_findings.specs.declared.headers.HeaderFault.{HeaderFault}
-use Rattle.backtrace_findings.specs.declared.headers.HeaderFault.TheVariants.{UnreadRow}
-use Rattle.backtrace_findings.specs.declared.headers.HeaderRow.{HeaderRow}
+use Rattle.backtrace_lint.specs.declared.header_tables.HeaderFault.{HeaderFault}
+use Rattle.backtrace_lint.specs.declared.header_tables.HeaderFault.TheVariants.{UnreadRow}
+use Rattle.backtrace_lint.specs.declared.header_tables.HeaderRow.{HeaderRow}
 use Rattle.backtrace_lint.specs.HeaderViews.{before_rows}
 use Rattle.backtrace_lint.specs.Headers.{row_read, rows_after, rows_of_table, rows_within, with_row}
 

@@ -18,9 +18,9 @@ use Rattle.dwarf_call_frames.specs.Halving.{row_with_start}
 use Rattle.dwarf_call_frames.specs.Header.{Header}
 use Rattle.dwarf_call_frames.specs.HeaderTable.{header_table, rows_by_index}
 use Rattle.dwarf_call_frames.specs.Truthful.{IsSound, IsTruthful, row_of_fde}
-use Rattle.backtrace_findings.specs.declared.headers.HeaderFault.{HeaderFault}
-use Rattle.backtrace_findings.specs.declared.headers.HeaderFault.TheVariants.{NoTable, OtherSection}
-use Rattle.backtrace_findings.specs.declared.headers.HeaderRow.{HeaderRow}
+use Rattle.backtrace_lint.specs.declared.header_tables.HeaderFault.{HeaderFault}
+use Rattle.backtrace_lint.specs.declared.header_tables.HeaderFault.TheVariants.{NoTable, OtherSection}
+use Rattle.backtrace_lint.specs.declared.header_tables.HeaderRow.{HeaderRow}
 use Rattle.backtrace_lint.specs.Headers.{header_rows, parsed_header, rows_if_read, rows_if_some, rows_if_there, rows_within, section_start}
 use Rattle.backtrace_lint.specs.TruthfulHeaders.{HasTruthfulRows, HeadedSection, headed_bases, headed_frames, headed_lines}
 use Rattle.backtrace_lint.proofs.HeaderLines.{AreClean, clean-header}

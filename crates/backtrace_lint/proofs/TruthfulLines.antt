@@ -17,11 +17,11 @@ use Rattle.dwarf_call_frames.specs.Halving.{TableRow, row_with_start}
 use Rattle.dwarf_call_frames.specs.Header.{Header}
 use Rattle.dwarf_call_frames.specs.HeaderTable.{HeaderTable, after_rows, header_table, pointer_size, row_at_index, rows_between, rows_by_index}
 use Rattle.dwarf_call_frames.specs.Truthful.{IsSound, IsTruthful, row_of_fde}
-use Rattle.backtrace_findings.specs.HeaderLines.{header_text, rows_text}
-use Rattle.backtrace_findings.specs.Headers.{is_named, located_fdes, rowless_fdes, start_at, start_named, unordered_from, unordered_rows, untrue_from}
-use Rattle.backtrace_findings.specs.Lines.{Place}
-use Rattle.backtrace_findings.specs.declared.headers.HeaderRow.{HeaderRow}
-use Rattle.backtrace_findings.specs.declared.headers.LocatedFde.{LocatedFde}
+use Rattle.backtrace_lint.specs.HeaderLines.{header_text, rows_text}
+use Rattle.backtrace_lint.specs.HeaderTables.{is_named, located_fdes, rowless_fdes, start_at, start_named, unordered_from, unordered_rows, untrue_from}
+use Rattle.backtrace_lint.specs.Lines.{Place}
+use Rattle.backtrace_lint.specs.declared.header_tables.HeaderRow.{HeaderRow}
+use Rattle.backtrace_lint.specs.declared.header_tables.LocatedFde.{LocatedFde}
 use Rattle.backtrace_lint.specs.Headers.{header_name, header_rows, row_read, rows_if_read, rows_if_there, rows_within, section_start, with_row, rows_after}
 use Rattle.backtrace_lint.specs.ListedFdes.{listed_fdes}
 use Rattle.backtrace_lint.specs.TruthfulHeaders.{HasTruthfulHeader, HasTruthfulRows, HeadedSection, headed_bases, headed_frames, headed_lines}

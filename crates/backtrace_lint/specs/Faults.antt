@@ -7,7 +7,7 @@ use Rattle.dwarf_frame_rows.specs.FrameSection.{FrameSection}
 use Rattle.dwarf_frame_entries.specs.Entries.{AnyEntry}
 use Rattle.dwarf_frame_entries.specs.EntryLists.{entries_of}
 use Rattle.dwarf_frame_entries.specs.declared.entries.Entry.TheVariants as which
-use Rattle.backtrace_findings.specs.declared.fdes.Fault.{Fault}
+use Rattle.backtrace_lint.specs.declared.fdes.Fault.{Fault}
 
 -- the offset of an entry
 abbrev pub offset_of : AnyEntry → ℕ

@@ -14,7 +14,7 @@ use Rattle.framehop_rows.specs.ScaledRowAarch64.{X29, X30}
 use Rattle.framehop_rows.specs.ScaledRowAarch64 as scaled_arm
 use Rattle.framehop_rules.specs.declared.aarch64.unwind_rule.UnwindRuleAarch64.{UnwindRuleAarch64}
 use Rattle.framehop_rules.specs.declared.x86_64.unwind_rule.UnwindRuleX86_64.{UnwindRuleX86_64}
-use Rattle.backtrace_findings.specs.declared.rows.FailedFde.{FailedFde}
+use Rattle.backtrace_lint.specs.declared.row_lines.FailedFde.{FailedFde}
 use Rattle.backtrace_lint.specs.RowFindings.{failed_fdes, unsaid_rows}
 
 -- the room that an unwinder has for rows: 192 rules in each, and 4 that are remembered

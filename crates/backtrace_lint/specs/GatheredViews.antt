@@ -1,7 +1,7 @@
 -- What is gathered of a section.
 use Rattle.std.specs.Prelude.{◌≡◌, ℕ, List}
 use Rattle.dwarf_frame_rows.specs.FrameSection.{FrameSection}
-use Rattle.backtrace_findings.specs.Lines.{Place}
+use Rattle.backtrace_lint.specs.Lines.{Place}
 use Rattle.backtrace_lint.specs.Faults.{fault_of}
 use Rattle.backtrace_lint.specs.LintText.{findings_text}
 use Rattle.backtrace_lint.specs.ListedFdes.{listed_fdes}

@@ -1,8 +1,8 @@
 -- Headers and their rows as contracts see them.
 use Rattle.std.specs.Prelude.{◌≡◌, List, ◌++◌, Option, option_map, Result, Ok, Err, Vec}
 use Rattle.std.specs.Global.{Global}
-use Rattle.backtrace_findings.specs.declared.headers.HeaderFault.{HeaderFault}
-use Rattle.backtrace_findings.specs.declared.headers.HeaderRow.{HeaderRow}
+use Rattle.backtrace_lint.specs.declared.header_tables.HeaderFault.{HeaderFault}
+use Rattle.backtrace_lint.specs.declared.header_tables.HeaderRow.{HeaderRow}
 use Rattle.backtrace_lint.specs.Headers.{HeaderSection}
 use Rattle.backtrace_lint.specs.declared.headers.HeaderSection.{HeaderSection as Read}
 

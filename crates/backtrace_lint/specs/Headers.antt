@@ -16,9 +16,9 @@ use Rattle.elf_files.specs.declared.section.Section.{Section}
 use Rattle.frame_table_files.specs.FileSections.{with_bits}
 use Rattle.frame_table_files.specs.declared.section_name.SectionName.{SectionName}
 use Rattle.frame_table_files.specs.declared.section_name.SectionName.TheVariants.{EhFrame, DebugFrame}
-use Rattle.backtrace_findings.specs.declared.headers.HeaderFault.{HeaderFault}
-use Rattle.backtrace_findings.specs.declared.headers.HeaderFault.TheVariants.{Unread, OtherSection, NoTable, UnreadRow}
-use Rattle.backtrace_findings.specs.declared.headers.HeaderRow.{HeaderRow}
+use Rattle.backtrace_lint.specs.declared.header_tables.HeaderFault.{HeaderFault}
+use Rattle.backtrace_lint.specs.declared.header_tables.HeaderFault.TheVariants.{Unread, OtherSection, NoTable, UnreadRow}
+use Rattle.backtrace_lint.specs.declared.header_tables.HeaderRow.{HeaderRow}
 
 -- ---- the section of a file
 

@@ -5,10 +5,10 @@ use Rattle.dwarf_frame_rows.specs.FrameSection.{FrameSection}
 use Rattle.dwarf_frame_entries.specs.Entries.{Fde, end_address}
 use Rattle.framehop_errors.specs.declared.cfi_index.DwarfCfiIndexError.{DwarfCfiIndexError}
 use Rattle.framehop_errors.specs.declared.cfi_index.DwarfCfiIndexError.TheVariants.{Gimli}
-use Rattle.backtrace_findings.specs.LeftOut.{left_out}
-use Rattle.backtrace_findings.specs.declared.fdes.Fault.{Fault}
-use Rattle.backtrace_findings.specs.declared.fdes.ListedFde.{ListedFde}
-use Rattle.backtrace_findings.specs.declared.left_out.LeftOut.{LeftOut}
+use Rattle.backtrace_lint.specs.LeftOut.{left_out}
+use Rattle.backtrace_lint.specs.declared.fdes.Fault.{Fault}
+use Rattle.backtrace_lint.specs.declared.fdes.ListedFde.{ListedFde}
+use Rattle.backtrace_lint.specs.declared.left_out.LeftOut.{LeftOut}
 use Rattle.backtrace_lint.specs.ListedFdes.{listed_fdes}
 
 -- what is said of the FDEs of a section that an index leaves out

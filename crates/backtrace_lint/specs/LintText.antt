@@ -13,15 +13,15 @@ use Rattle.frame_table_files.specs.declared.error.FileError.TheVariants.{Elf, No
 use Rattle.frame_table_files.specs.declared.section_name.SectionName.{SectionName}
 use Rattle.frame_table_files.specs.declared.section_name.SectionName.TheVariants.{EhFrame, DebugFrame}
 use Rattle.elf_files.specs.Bytes.{ElfResult}
-use Rattle.backtrace_findings.specs.HeaderLines.{header_text}
-use Rattle.backtrace_findings.specs.Headers.{located_fdes}
-use Rattle.backtrace_findings.specs.LeftOut.{left_out}
-use Rattle.backtrace_findings.specs.Lines.{Place, fault_text, left_outs_text, overlaps_text}
-use Rattle.backtrace_findings.specs.Overlaps.{overlaps_of}
-use Rattle.backtrace_findings.specs.RowLines.{faileds_text, unsaids_text}
-use Rattle.backtrace_findings.specs.declared.fdes.Fault.{Fault}
-use Rattle.backtrace_findings.specs.declared.fdes.ListedFde.{ListedFde}
-use Rattle.backtrace_findings.specs.declared.rows.FailedFde.{FailedFde}
+use Rattle.backtrace_lint.specs.HeaderLines.{header_text}
+use Rattle.backtrace_lint.specs.HeaderTables.{located_fdes}
+use Rattle.backtrace_lint.specs.LeftOut.{left_out}
+use Rattle.backtrace_lint.specs.Lines.{Place, fault_text, left_outs_text, overlaps_text}
+use Rattle.backtrace_lint.specs.Overlaps.{overlaps_of}
+use Rattle.backtrace_lint.specs.RowLines.{faileds_text, unsaids_text}
+use Rattle.backtrace_lint.specs.declared.fdes.Fault.{Fault}
+use Rattle.backtrace_lint.specs.declared.fdes.ListedFde.{ListedFde}
+use Rattle.backtrace_lint.specs.declared.row_lines.FailedFde.{FailedFde}
 use Rattle.backtrace_lint.specs.Faults.{fault_of}
 use Rattle.backtrace_lint.specs.FileRows.{failed_on, unsaid_on}
 use Rattle.backtrace_lint.specs.Headers.{HeaderSection, header_for, header_name, header_rows, section_start, with_header}

@@ -7,8 +7,8 @@ use Rattle.dwarf_frame_rows.specs.SectionKind.{FrameSectionKind}
 use Rattle.dwarf_frame_entries.specs.Entries.{AnyEntry, Fde, PartialFde, end_address, fde_of}
 use Rattle.dwarf_frame_entries.specs.EntryLists.{entries_of}
 use Rattle.dwarf_frame_entries.specs.declared.entries.Entry.TheVariants as which
-use Rattle.backtrace_findings.specs.declared.fdes.Code.{Code}
-use Rattle.backtrace_findings.specs.declared.fdes.ListedFde.{ListedFde}
+use Rattle.backtrace_lint.specs.declared.fdes.Code.{Code}
+use Rattle.backtrace_lint.specs.declared.fdes.ListedFde.{ListedFde}
 
 -- the code of an FDE
 abbrev pub code_of : Fde → Code

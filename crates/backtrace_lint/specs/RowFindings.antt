@@ -12,7 +12,7 @@ use Rattle.dwarf_frame_entries.specs.Entries.{AnyEntry, Fde}
 use Rattle.dwarf_frame_entries.specs.EntryLists.{entries_of}
 use Rattle.dwarf_frame_entries.specs.EntryPrograms.{fde_rows}
 use Rattle.dwarf_frame_entries.specs.SectionFdes.{fde_in}
-use Rattle.backtrace_findings.specs.declared.rows.FailedFde.{FailedFde}
+use Rattle.backtrace_lint.specs.declared.row_lines.FailedFde.{FailedFde}
 
 -- where a row starts, unless it has a rule
 abbrev pub start_without : {Rule : Type 0} → Row ℕ → Option Rule → Option ℕ

@@ -13,7 +13,7 @@ use Rattle.dwarf_frame_entries.specs.Entries.{AnyEntry, Fde, PartialFde, fde_of_
 use Rattle.dwarf_frame_entries.specs.EntryPrograms.{fde_rows}
 use Rattle.dwarf_frame_instructions.specs.ProgramRows.{rows_left}
 use Rattle.dwarf_frame_instructions.specs.declared.rows.ProgramRows.{ProgramRows}
-use Rattle.backtrace_findings.specs.declared.rows.FailedFde.{FailedFde}
+use Rattle.backtrace_lint.specs.declared.row_lines.FailedFde.{FailedFde}
 use Rattle.dwarf_frame_entries.specs.declared.entries.Entry.TheVariants as which
 use Rattle.elf_files.specs.declared.header.Machine.{Machine}
 use Rattle.framehop_rows.specs.RowMeanings.{RowMeanings}

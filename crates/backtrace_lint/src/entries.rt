@@ -8,7 +8,7 @@ ghost use Rattle.dwarf_frame_entries.specs.SectionWithin.{section_within};
 ghost use Rattle.backtrace_lint.specs.ListedFdes.{code_of, listed_entry, listed_fde};
 ghost use Rattle.backtrace_lint.specs.Faults.{end_of_entry, offset_after, offset_of};
 
-use backtrace_findings::{Code, ListedFde};
+use crate::fdes::{Code, ListedFde};
 use dwarf_frame_entries::{
     BaseAddresses, CieOrFde, Entry, FrameDescriptionEntry, KnownCies, PartialFrameDescriptionEntry,
     UnwindSection,

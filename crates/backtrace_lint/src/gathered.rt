@@ -8,7 +8,7 @@ ghost use Rattle.backtrace_lint.specs.GatheredViews.{Gathers};
 ghost use Rattle.backtrace_lint.specs.ListedFdes.{listed_entry, with_listed};
 
 use crate::entries::{listed_entry, offset_after};
-use backtrace_findings::{Fault, ListedFde};
+use crate::fdes::{Fault, ListedFde};
 use dwarf_frame_entries::{BaseAddresses, CieOrFde, KnownCies, UnwindSection};
 use dwarf_readers::Reader;
 use std::alloc::{AllocError, Global};

@@ -8,7 +8,7 @@ ghost use Rattle.backtrace_lint.specs.HeaderViews.{AreRows, header_seen};
 ghost use Rattle.backtrace_lint.specs.Headers.{header_for, header_in, header_rows, header_section_of, row_read, rows_if_some, rows_if_there, rows_of_table, section_start, with_header};
 ghost use Rattle.frame_table_files.specs.FileSections.{with_bits};
 
-use backtrace_findings::{HeaderFault, HeaderRow};
+use crate::header_tables::{HeaderFault, HeaderRow};
 use dwarf_call_frames::{
     BaseAddresses, EhFrameHdr, EhHdrTable, ParsedEhFrameHdr, SectionBaseAddresses,
 };

@@ -5,7 +5,7 @@ ghost use Rattle.dwarf_frame_instructions.specs.Execution.{row_in};
 ghost use Rattle.backtrace_lint.specs.RowFindings.{failed_at, unsaid_start};
 ghost use Rattle.backtrace_lint.specs.RowViews.{Adds, AddsFde, AddsOf, AddsPart, FindsRows, with_failed};
 
-use backtrace_findings::FailedFde;
+use crate::row_lines::FailedFde;
 use dwarf_constants::Error;
 use dwarf_frame_entries::{
     BaseAddresses, Entry, FrameDescriptionEntry, KnownCies, PartialFrameDescriptionEntry,

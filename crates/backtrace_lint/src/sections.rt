@@ -2,20 +2,23 @@
 
 ghost use Rattle.std.specs.Prelude.{◌≡◌, IfOk};
 ghost use Rattle.line_parts.specs.Parts.{Pushes};
-ghost use Rattle.backtrace_findings.specs.PlaceViews.{place_seen};
+ghost use Rattle.backtrace_lint.specs.PlaceViews.{place_seen};
 ghost use Rattle.backtrace_lint.specs.GatheredViews.{Gathers, gathered_text_of};
 ghost use Rattle.backtrace_lint.specs.HeaderViews.{header_seen, if_seen};
 ghost use Rattle.backtrace_lint.specs.LintText.{file_rows_text, file_section_text, frames_of, header_lines, lines_of, rows_text};
 ghost use Rattle.frame_table_files.specs.SectionViews.{section_seen};
 
+use crate::fdes::ListedFde;
 use crate::file_rows::rows_of_section;
 use crate::gathered::{Gathered, gather};
+use crate::header_lines::{push_header_fault, push_header_rows};
+use crate::header_tables::located_fdes;
 use crate::headers::{HeaderSection, header_rows, section_start, with_header};
+use crate::left_out::left_outs;
+use crate::lines::{Place, push_fault, push_left_outs, push_overlaps};
+use crate::overlaps::overlaps_of;
+use crate::row_lines::{push_failed, push_unsaid};
 use crate::rows::RowFindings;
-use backtrace_findings::{
-    ListedFde, Place, left_outs, located_fdes, overlaps_of, push_failed, push_fault,
-    push_header_fault, push_header_rows, push_left_outs, push_overlaps, push_unsaid,
-};
 use dwarf_frame_entries::{DebugFrame, EhFrame};
 use dwarf_readers::LittleEndian;
 use frame_table_files::{FileSection, SectionName};

@@ -6,12 +6,20 @@
 //! - `names`: mangled names, a line each. `scripts/symbol-names` writes what `c++filt` writes.
 //! - `stacks`, `flame`, `icicle`: stacks with their counts, as the boxes of each line or as a picture of all lines.
 //!   `scripts/flame-graphs` writes what a second reader finds.
+//! - `code`: machine code in hexadecimal digits, a case a line: the rules of prologues and epilogues, or behind `lengths` the length of
+//!   the instruction of x86_64 that each beginning of the code begins with, as `scripts/analysis-rows` and `scripts/x86-cases` have them.
+//! - `instructions`: words of aarch64, a line each, for `scripts/ways-instructions`; `effects`: codes of x86_64, each of which begins
+//!   with an instruction, for `scripts/x86-lengths`; `ways`: places of functions of x86_64 behind their code, for `scripts/x86-ways`.
 #![tactic(auto)]
 
+mod code;
+mod detecting;
 mod elf;
 mod events;
 mod frames;
 mod functions;
+mod instructions;
+mod lengths;
 mod links;
 mod mapped;
 mod names;
@@ -22,10 +30,14 @@ mod sections;
 mod segments;
 mod stacks;
 mod text;
+mod ways;
 
 use anyhow::{Result, bail};
+use code::show_code;
 use elf::show_elf;
 use flame_graph::Direction;
+use instructions::show_instructions;
+use lengths::show_effects;
 use links::show_link;
 use names::show_names;
 use recording::show_recording;
@@ -33,6 +45,7 @@ use shown_text::Shown;
 use stacks::{show_picture, show_stacks};
 use std::io::{Read, Write};
 use std::{env, fs, io};
+use ways::show_ways;
 
 // Shows a file of a kind.
 fn show(rt: &HostRuntime, kind: &str, path: &str, shown: &mut Shown) -> Result<()> {
@@ -52,7 +65,11 @@ fn show(rt: &HostRuntime, kind: &str, path: &str, shown: &mut Shown) -> Result<(
         "stacks" => show_stacks(str::from_utf8(&bytes)?, shown),
         "flame" => show_picture(str::from_utf8(&bytes)?, Direction::Flame, shown),
         "icicle" => show_picture(str::from_utf8(&bytes)?, Direction::Icicle, shown),
-        _ => bail!("a kind is elf, link, recording, names, stacks, flame or icicle"),
+        "code" => show_code(str::from_utf8(&bytes)?, shown),
+        "instructions" => show_instructions(str::from_utf8(&bytes)?, shown),
+        "effects" => show_effects(str::from_utf8(&bytes)?, shown),
+        "ways" => show_ways(str::from_utf8(&bytes)?, shown),
+        _ => bail!("no kind has this name"),
     }
 }
 

@@ -3,7 +3,7 @@
 use perf_files::ThreadId;
 use shown_text::Shown;
 use std::alloc::AllocError;
-use std::fmt::Display;
+use std::fmt::{Debug, Display};
 
 /// The bytes of a section, as far as there are some.
 pub(crate) fn bytes_of(bytes: &[u8], offset: u64, size: u64) -> &[u8] {
@@ -54,4 +54,10 @@ pub(crate) fn show_display<T: Display>(before: &str, value: &T, shown: &mut Show
 pub(crate) fn show_digits(before: &str, bytes: &[u8], shown: &mut Shown) {
     shown.text(before);
     show_made(hex::encode(shown.alloc(), bytes), shown);
+}
+
+/// Shows a line, and behind it what a value is.
+pub(crate) fn show_debug<T: Debug>(line: &str, value: &T, shown: &mut Shown) {
+    show_made(format!(in shown.alloc(); "{line} {value:?}"), shown);
+    shown.end();
 }

@@ -2,7 +2,7 @@
 use Rattle.std.specs.Prelude.{ℕ, List, codes, Option, Some, None}
 use Rattle.framehop_registers.specs.FrameAddress.{address_of, lookup_address_of}
 use Rattle.framehop_registers.specs.declared.code_address.FrameAddress.{FrameAddress}
-use Rattle.process_modules.specs.declared.modules.CodePlace.{CodePlace}
+use Rattle.sample_stacks.specs.declared.modules.CodePlace.{CodePlace}
 use Rattle.sample_stacks.specs.declared.walks.WalkEnd.{WalkEnd}
 use Rattle.sample_stacks.specs.declared.walks.WalkEnd.TheVariants.{Broken, Complete, Truncated}
 use Rattle.fold_stacks.specs.declared.frames.UserFrame.{UserFrame}

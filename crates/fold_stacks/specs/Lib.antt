@@ -1,11 +1,16 @@
+pub mod Comms
 pub mod Concerns
 pub mod CountedStacks
 pub mod FoldingStates
 pub mod Foldings
 pub mod FrameTexts
 pub mod Frames
+pub mod KeptNumbers
 pub mod RecordChanges
+pub mod Recordings
 pub mod Selections
 pub mod Stacks
 pub mod Taken
+pub mod ThreadNames
 pub mod Walks
+pub mod Weights

@@ -1,5 +1,5 @@
 -- What was taken of a record: a change of processes, or a sample that was counted.
-use Rattle.std.specs.Prelude.{ℕ, List, Option, Some, None}
+use Rattle.std.specs.Prelude.{ℕ, List, Option, Some, None, option_map}
 use Rattle.folded_stacks.specs.Lines.{Line, counted}
 use Rattle.perf_processes.specs.declared.change.Change.{Change}
 use Rattle.fold_stacks.specs.declared.taken.CountedSample.{CountedSample}
@@ -21,6 +21,10 @@ abbrev pub counted_in : Taken → Option Line
 counted_in (Changed change) = None
 counted_in (Counted sample) = Some (sample_line sample)
 counted_in Nothing = None
+
+-- what it counts for
+abbrev pub weight_in : Taken → Option ℕ
+weight_in taken = option_map (λ sample. sample.count) (counted_in taken)
 
 -- counts after a sample more, if there is one
 abbrev pub counted_if : Option Line → List Line → List Line

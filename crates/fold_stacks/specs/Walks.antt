@@ -7,7 +7,7 @@ use Rattle.framehop_registers.specs.declared.code_address.FrameAddress.{FrameAdd
 use Rattle.framehop_unwinder.specs.IdViews.{has_both}
 use Rattle.framehop_unwinder.specs.State.{SessionState}
 use Rattle.framehop_unwinder.specs.declared.ids.CacheId.{CacheId}
-use Rattle.process_modules.specs.Modules.{ModuleRanges, module_code}
+use Rattle.sample_stacks.specs.Modules.{ModuleRanges, module_code}
 use Rattle.sample_stacks.specs.SampleFrames.{frames_in}
 use Rattle.sample_stacks.specs.SampleMeanings.{SampleMeanings}
 use Rattle.sample_stacks.specs.WalkViews.{frames_seen}

@@ -1,11 +1,13 @@
 //! What records say that changes processes.
 
-ghost use Rattle.std.specs.Prelude.{◌≡◌, IfOk, Ok};
+ghost use Rattle.std.specs.Prelude.{◌≡◌, IfOk, None};
 ghost use Rattle.perf_files.specs.MappingViews.{mapping_seen};
 ghost use Rattle.perf_files.specs.RecordViews.{record_seen};
 ghost use Rattle.perf_files.specs.TaskViews.{command_seen};
 ghost use Rattle.perf_files.specs.declared.record.RecordKind.TheVariants as kind;
-ghost use Rattle.fold_stacks.specs.RecordChanges.{change_by, command_change, mapped_file, number_in};
+ghost use Rattle.fold_stacks.specs.Foldings.{IsChange};
+ghost use Rattle.fold_stacks.specs.KeptNumbers.{IsNamed, name_number};
+ghost use Rattle.fold_stacks.specs.RecordChanges.{command_change, mapped_file};
 
 use crate::error::FoldError;
 use crate::files::SampledFiles;
@@ -47,7 +49,8 @@ fn mapping_change<F: SampledFiles>(
     record: &Record<'_>,
     attributes: &Attributes,
 ) -> Result<Option<Change>, FoldError>
-    ensures { IfOk result (λ change. change_by kind.Mapping attributes.now (record_seen record.now) (number_in change) ≡ Ok change) }
+    ensures change { IfOk result (λ change. IsChange kind.Mapping attributes.now (record_seen record.now) change) }
+    ensures unnamed { IfOk result (λ change. name_number change ≡ None) }
 {
     let mapping = Mapping::parse(record, attributes)?;
     if !mapping.executable {
@@ -58,12 +61,14 @@ fn mapping_change<F: SampledFiles>(
 }
 
 // What a name changes.
+#[tactic(auto, using(crate::proofs::Kept::kept_numbers))]
 fn command_change(
     names: &mut FrameNames,
     record: &Record<'_>,
     attributes: &Attributes,
 ) -> Result<Option<Change>, FoldError>
-    ensures { IfOk result (λ change. change_by kind.Command attributes.now (record_seen record.now) (number_in change) ≡ Ok change) }
+    ensures change { IfOk result (λ change. IsChange kind.Command attributes.now (record_seen record.now) change) }
+    ensures names { IfOk result (λ change. IsNamed attributes.now (record_seen record.now) names.old names.new change) }
 {
     let command = Command::parse(record, attributes)?;
     let name = names.number_of(command.name)?;
@@ -78,7 +83,8 @@ pub fn change_of<F: SampledFiles>(
     record: &Record<'_>,
     attributes: &Attributes,
 ) -> Result<Option<Change>, FoldError>
-    ensures { IfOk result (λ change. change_by record.now.kind attributes.now (record_seen record.now) (number_in change) ≡ Ok change) }
+    ensures change { IfOk result (λ change. IsChange record.now.kind attributes.now (record_seen record.now) change) }
+    ensures names { IfOk result (λ change. IsNamed attributes.now (record_seen record.now) names.old names.new change) }
 {
     match record.kind {
         RecordKind::Mapping | RecordKind::Mapping2 => {

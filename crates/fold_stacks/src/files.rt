@@ -1,6 +1,6 @@
 //! The files that a recording names.
 
-use process_modules::FileBytes;
+use sample_stacks::FileBytes;
 use std::alloc::{AllocError, Global};
 use std::collections::HashMap;
 

@@ -1,13 +1,15 @@
 //! The folded stacks of the records so far.
 
-ghost use Rattle.std.specs.Prelude.{◌≡◌, IfOk, map};
+ghost use Rattle.std.specs.Prelude.{◌≡◌, IfOk, None, map};
 ghost use Rattle.folded_stacks.specs.LineViews.{line_seen};
 ghost use Rattle.perf_files.specs.RecordViews.{record_seen};
 ghost use Rattle.perf_files.specs.declared.record.RecordKind.TheVariants as kind;
 ghost use Rattle.fold_stacks.specs.CountedStacks.{lines_in};
 ghost use Rattle.fold_stacks.specs.FoldingStates.{nothing_folded};
-ghost use Rattle.fold_stacks.specs.Foldings.{IsChange, SaysChange, after_if};
-ghost use Rattle.fold_stacks.specs.Taken.{change_in, counted_if, counted_in};
+ghost use Rattle.fold_stacks.specs.Foldings.{IsChange, KeepsEndedIf, SaysChange, after_if};
+ghost use Rattle.fold_stacks.specs.KeptNumbers.{NamesThread, SaysName};
+ghost use Rattle.fold_stacks.specs.Taken.{change_in, counted_if, counted_in, weight_in};
+ghost use Rattle.fold_stacks.specs.Weights.{IsWeight, SaysWeight, event_name};
 
 use crate::changes::change_of;
 use crate::comms::Comms;
@@ -19,7 +21,9 @@ use crate::taken::{CountedSample, Taken};
 use crate::totals::FoldTotals;
 use fold_options::FoldOptions;
 use folded_stacks::FoldedLine;
-use perf_files::{Attributes, Event, Record, RecordKind, Sample, ThreadId, event_of, lost_of};
+use perf_files::{
+    Attributes, Event, EventError, Record, RecordKind, Sample, ThreadId, event_of, lost_of,
+};
 use perf_processes::Processes;
 use sample_stacks::SampleArch;
 use std::alloc::{AllocError, Global};
@@ -50,12 +54,15 @@ impl<A: SampleArch> Model for Folding<A> {
 
     ghost view = { λ folding. record {
       processes = folding.processes;
+      comms = folding.comms;
       stacks = folding.samples;
     } };
 }
 
 // The name of an event.
-fn event_name<'e>(events: RecordedEvents<'e>, index: usize) -> &'e [u8] {
+fn event_name<'e>(events: RecordedEvents<'e>, index: usize) -> &'e [u8]
+    ensures { result.now ≡ event_name events.entry.names.now index }
+{
     match events.names.get(index) {
         Some(name) => name.as_slice(),
         None => &[],
@@ -86,7 +93,11 @@ impl<A: SampleArch> Folding<A> {
     ) -> Result<Taken, FoldError>
         ensures change { IfOk result (λ taken. IsChange kind.Sample attributes.now (record_seen record.now) (change_in taken)) }
         ensures processes { IfOk result (λ taken. self.new.processes ≡ after_if (change_in taken) self.old.processes) }
+        ensures ended { IfOk result (λ taken. KeepsEndedIf (change_in taken) self.old self.new) }
+        ensures names { IfOk result (λ taken. NamesThread attributes.now (record_seen record.now) self.old self.new (change_in taken)) }
         ensures counts { IfOk result (λ taken. self.new.stacks.counts ≡ counted_if (counted_in taken) self.old.stacks.counts) }
+        ensures weight { IfOk result (λ taken.
+            IsWeight options.now self.old event.now attributes.now record.now.payload.now (weight_in taken)) }
     {
         let sample = Sample::parse(record.payload, attributes)?;
         let thread = sample.head.thread.unwrap_or(ThreadId { pid: 0, tid: 0 });
@@ -117,7 +128,10 @@ impl<A: SampleArch> Folding<A> {
     ) -> Result<Taken, FoldError>
         ensures change { IfOk result (λ taken. IsChange record.now.kind attributes.now (record_seen record.now) (change_in taken)) }
         ensures processes { IfOk result (λ taken. self.new.processes ≡ after_if (change_in taken) self.old.processes) }
+        ensures ended { IfOk result (λ taken. KeepsEndedIf (change_in taken) self.old self.new) }
+        ensures names { IfOk result (λ taken. NamesThread attributes.now (record_seen record.now) self.old self.new (change_in taken)) }
         ensures counts { IfOk result (λ taken. self.new.stacks.counts ≡ counted_if (counted_in taken) self.old.stacks.counts) }
+        ensures weight { IfOk result (λ taken. weight_in taken ≡ None) }
     {
         let found = change_of::<F>(&mut self.comms.names, files, record, attributes)?;
         let Some(change) = found else {
@@ -141,11 +155,16 @@ impl<A: SampleArch> Folding<A> {
     ) -> Result<Taken, FoldError>
         ensures change { IfOk result (λ taken. SaysChange events.entry.events.now (record_seen record.now) (change_in taken)) }
         ensures processes { IfOk result (λ taken. self.new.processes ≡ after_if (change_in taken) self.old.processes) }
+        ensures ended { IfOk result (λ taken. KeepsEndedIf (change_in taken) self.old self.new) }
+        ensures names { IfOk result (λ taken.
+            SaysName events.entry.events.now (record_seen record.now) self.old self.new (change_in taken)) }
         ensures counts { IfOk result (λ taken. self.new.stacks.counts ≡ counted_if (counted_in taken) self.old.stacks.counts) }
+        ensures weight { IfOk result (λ taken.
+            SaysWeight options.now events.entry self.old (record_seen record.now) (weight_in taken)) }
     {
         let index = event_of(events.events, record)?;
         let Some(event) = events.events.get(index) else {
-            return Ok(Taken::Nothing);
+            return Err(FoldError::Event(EventError::NoEvent));
         };
         match record.kind {
             RecordKind::Sample => {

@@ -1,6 +1,6 @@
 //! The frames of user code.
 
-use process_modules::CodePlace;
+use sample_stacks::CodePlace;
 
 /// A frame of user code.
 #[derive(Clone, Copy, Debug, PartialEq, Eq)]

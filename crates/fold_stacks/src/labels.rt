@@ -10,7 +10,7 @@ use folded_stacks::{FrameNames, push_address, push_kernel_name};
 use function_index::FunctionIndex;
 use kernel_symbols::KernelSymbols;
 use perf_processes::Processes;
-use process_modules::CodePlace;
+use sample_stacks::CodePlace;
 use std::alloc::{AllocError, Global};
 use std::collections::HashMap;
 use std::marker::Model;

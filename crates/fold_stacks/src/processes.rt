@@ -5,8 +5,7 @@ ghost use Rattle.fold_stacks.specs.Concerns.{concerned};
 
 use crate::walks::Walker;
 use perf_processes::{Change, Processes};
-use process_modules::ProcessModules;
-use sample_stacks::SampleArch;
+use sample_stacks::{ProcessModules, SampleArch};
 use std::alloc::{AllocError, Global};
 use std::collections::HashMap;
 

@@ -2,7 +2,7 @@
 
 ghost use Rattle.std.specs.Prelude.{◌≡◌, ◌<◌, IfOk, map};
 ghost use Rattle.std.specs.Bool.{OnFalse, OnTrue};
-ghost use Rattle.process_modules.specs.Modules.{ranges_left};
+ghost use Rattle.sample_stacks.specs.Modules.{ranges_left};
 ghost use Rattle.fold_stacks.specs.Frames.{frame_of, unplaced, without_place};
 ghost use Rattle.fold_stacks.specs.Walks.{AreFrames};
 
@@ -12,8 +12,10 @@ use framehop::x86_64::SlotCount;
 use framehop::{CacheId, Generations, Session};
 use framehop_registers::FrameAddress;
 use perf_files::Sample;
-use process_modules::{CodePlace, ProcessModules};
-use sample_stacks::{SampleArch, SampleModules, SampleStart, StackCopy, WalkEnd, push_frames};
+use sample_stacks::{
+    CodePlace, ProcessModules, SampleArch, SampleModules, SampleStart, StackCopy, WalkEnd,
+    push_frames,
+};
 use std::alloc::{AllocError, Global};
 
 // How many rules the cache keeps.

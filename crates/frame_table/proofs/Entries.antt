@@ -10,7 +10,7 @@ use Rattle.frame_table.specs.Entries.{Part, Setting, fde_or_fault, head_of, part
 use Rattle.frame_table.specs.EntryWrites.{WritesPart}
 use Rattle.frame_table.specs.EntryPrefix.{EntryPrefix}
 use Rattle.frame_table.specs.declared.parts.PartEnd.{PartEnd}
-use Rattle.frame_table_text.specs.Tables.{Table, table_text}
+use Rattle.frame_table.specs.Tables.{Table, table_text}
 
 -- the prefix of a line, by equal numbers
 pub same_prefix : (size size' offset offset' length length' : ℕ) (prefix : EntryPrefix) → size ≡ size' → offset ≡ offset' → length ≡ length'

@@ -5,7 +5,7 @@ use Rattle.json_program.specs.Decoded.{result_map}
 use Rattle.json_program.proofs.Laws.{first-field, and-field, as_it_is}
 use Rattle.frame_table.specs.Document.{stated_of}
 use Rattle.frame_table_files.specs.declared.section_name.SectionName.{SectionName}
-use Rattle.frame_table_text.specs.declared.names.Machine.{Machine}
+use Rattle.frame_table.specs.declared.names.Machine.{Machine}
 
 abbrev pub Bytes : Type 0
 Bytes = Vec ℕ Global

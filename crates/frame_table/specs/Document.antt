@@ -12,8 +12,8 @@ use Rattle.json_program.specs.Json.{address_value, bytes_value, field, has_only,
 use Rattle.dwarf_readers.specs.InitialLength.{is_size}
 use Rattle.frame_table_files.specs.SectionNames.{named}
 use Rattle.frame_table_files.specs.declared.section_name.SectionName.{SectionName}
-use Rattle.frame_table_text.specs.declared.names.Machine.{Machine}
-use Rattle.frame_table_text.specs.declared.names.Machine.TheVariants.{X86_64, AArch64}
+use Rattle.frame_table.specs.declared.names.Machine.{Machine}
+use Rattle.frame_table.specs.declared.names.Machine.TheVariants.{X86_64, AArch64}
 
 -- a section: its name, its machine, if that is stated, its start, the size of an address if no CIE states it, and its bytes
 pub record Stated : Type 0 where

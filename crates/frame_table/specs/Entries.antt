@@ -15,10 +15,10 @@ use Rattle.dwarf_frame_entries.specs.Entries.{AnyEntry, Cie, Fde, Head, PartialF
 use Rattle.dwarf_frame_entries.specs.EntryPrograms.{cie_instructions, factors_of, fde_instructions, fde_program}
 use Rattle.dwarf_frame_entries.specs.declared.entries.Entry.TheVariants as which
 use Rattle.line_parts.specs.Parts.{hex_of}
-use Rattle.frame_table_text.specs.Columns.{all_nops, columns_with}
+use Rattle.frame_table.specs.Columns.{all_nops, columns_with}
 use Rattle.frame_table.specs.EntryPrefix.{EntryPrefix, augmentation_text, entry_prefix_at}
-use Rattle.frame_table_text.specs.Tables.{Table, table_text}
-use Rattle.frame_table_text.specs.declared.names.Machine.{Machine}
+use Rattle.frame_table.specs.Tables.{Table, table_text}
+use Rattle.frame_table.specs.declared.names.Machine.{Machine}
 
 -- a section, and how it is listed: whose instructions are read, whose names registers have, and what rows have room for
 pub record Setting : Type 0 where

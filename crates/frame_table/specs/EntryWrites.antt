@@ -18,10 +18,10 @@ use Rattle.frame_table.specs.Entries.{Part, Setting, cie_program, listed_part, p
 use Rattle.frame_table.specs.Listing.{Listing, listing_of}
 use Rattle.frame_table.specs.declared.listed.Listed.{Listed}
 use Rattle.frame_table.specs.declared.parts.PartEnd.{PartEnd}
-use Rattle.frame_table_text.specs.Tables.{Table}
-use Rattle.frame_table_text.specs.TableViews.{table_view}
-use Rattle.frame_table_text.specs.declared.names.Machine.{Machine}
-use Rattle.frame_table_text.specs.declared.tables.Table.{Table as Made}
+use Rattle.frame_table.specs.Tables.{Table}
+use Rattle.frame_table.specs.TableViews.{table_view}
+use Rattle.frame_table.specs.declared.names.Machine.{Machine}
+use Rattle.frame_table.specs.declared.tables.Table.{Table as Made}
 
 -- a setting of these parts
 abbrev pub setting : Limits → FrameSection → Vendor → Option Machine → Setting

@@ -9,8 +9,8 @@ use Rattle.frame_table.specs.declared.program.Ending.{Ending}
 use Rattle.frame_table_files.specs.FileSections.{FileSection, section_of_file}
 use Rattle.frame_table_files.specs.declared.error.FileError.{FileError}
 use Rattle.frame_table_files.specs.declared.section_name.SectionName.{SectionName}
-use Rattle.frame_table_text.specs.declared.names.Machine.{Machine}
-use Rattle.frame_table_text.specs.declared.names.Machine.TheVariants.{X86_64, AArch64}
+use Rattle.frame_table.specs.declared.names.Machine.{Machine}
+use Rattle.frame_table.specs.declared.names.Machine.TheVariants.{X86_64, AArch64}
 
 -- the machine of a file
 abbrev pub machine_of : FileMachine → Machine

@@ -13,8 +13,8 @@ use Rattle.frame_table.specs.Entries.{Setting}
 use Rattle.frame_table_files.specs.Bases.{no_bases}
 use Rattle.frame_table_files.specs.declared.section_name.SectionName.{SectionName}
 use Rattle.frame_table_files.specs.declared.section_name.SectionName.TheVariants.{EhFrame, DebugFrame}
-use Rattle.frame_table_text.specs.declared.names.Machine.{Machine}
-use Rattle.frame_table_text.specs.declared.names.Machine.TheVariants.{X86_64, AArch64}
+use Rattle.frame_table.specs.declared.names.Machine.{Machine}
+use Rattle.frame_table.specs.declared.names.Machine.TheVariants.{X86_64, AArch64}
 
 -- a section: its name, its machine, if that is known, what its pointers are relative to, the size of an address if no CIE states it,
 -- and its bytes

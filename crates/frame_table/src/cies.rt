@@ -19,7 +19,7 @@ use dwarf_frame_entries::{
 use dwarf_frame_instructions::FrameProgram;
 use dwarf_frame_rows::{_UnwindSectionPrivate, PointerEncodingParameters};
 use dwarf_readers::{Reader, ReaderOffset};
-use frame_table_text::{push_bytes, push_decimal, push_signed};
+use line_parts::{push_bytes, push_decimal, push_signed};
 use std::alloc::{AllocError, Global};
 use std::collections::BTreeSet;
 

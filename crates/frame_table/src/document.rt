@@ -9,8 +9,8 @@ ghost use Rattle.json_program.specs.Json.{bytes_value, field, optional_value};
 ghost use Rattle.frame_table.specs.Document.{fields_in, machine_named, machine_value, name_value, of_document, size_of_addresses, size_value, stated_by, stated_in, stated_value};
 ghost use Rattle.frame_table.specs.DocumentViews.{stated_view};
 
+use crate::names::Machine;
 use frame_table_files::SectionName;
-use frame_table_text::Machine;
 use json_program::check::{Checked, both, keep_fault};
 use json_program::field::{address_field, find_field, has_only, number_field, text_field, text_in};
 use json_program::float::has_float;

@@ -7,15 +7,17 @@ ghost use Rattle.frame_table.specs.Entries.{fde_line, fde_or_fault, fde_places, 
 ghost use Rattle.frame_table.specs.EntryWrites.{HasTable, ListsFde, WritesPart, setting_by};
 ghost use Rattle.frame_table.specs.EntryPrefixViews.{prefix_view};
 
+use crate::columns::add_columns;
 use crate::entry_prefix::{EntryPrefix, entry_prefix_at};
 use crate::listed::Listed;
 use crate::parts::{PartEnd, end_part, push_fault, push_prefix, table_of};
+use crate::tables::Table;
 use dwarf_frame_entries::{
     FrameDescriptionEntry, KnownCies, PartialFrameDescriptionEntry, UnwindContext,
     UnwindContextStorage, UnwindOffset, UnwindSection,
 };
 use dwarf_readers::{Reader, ReaderOffset};
-use frame_table_text::{Table, add_columns, push_bytes, push_hex};
+use line_parts::{push_bytes, push_hex};
 use std::alloc::{AllocError, Global};
 use std::collections::BTreeSet;
 

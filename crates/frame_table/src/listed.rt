@@ -1,7 +1,7 @@
 //! A section that is listed, and how.
 
+use crate::names::Machine;
 use dwarf_frame_entries::BaseAddresses;
-use frame_table_text::Machine;
 
 /// A section, and how it is listed.
 #[derive(Drop)]

@@ -13,12 +13,12 @@ ghost use Rattle.json_program.specs.Errors.{ReportsFailures};
 use crate::document::Stated;
 use crate::listed::Listed;
 use crate::listing::write_listing;
+use crate::names::Machine;
 use dwarf_constants::Vendor;
 use dwarf_frame_entries::{BaseAddresses, DebugFrame, EhFrame, UnwindContext};
 use dwarf_frame_rows::{SectionBaseAddresses, StoreOnHeap};
 use dwarf_readers::{EndianSlice, LittleEndian};
 use frame_table_files::{FileSection, SectionName};
-use frame_table_text::Machine;
 use json_program::{RunError, Sink};
 use std::alloc::Global;
 

@@ -7,6 +7,7 @@
 
 mod arguments;
 mod cies;
+mod columns;
 mod document;
 mod entry_prefix;
 mod fdes;
@@ -14,8 +15,10 @@ mod file;
 mod listed;
 mod listing;
 mod located;
+mod names;
 mod parts;
 mod program;
+mod tables;
 
 use anyhow::{Context, Result};
 use arguments::{Request, USAGE, request_of};

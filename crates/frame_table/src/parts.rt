@@ -7,11 +7,14 @@ ghost use Rattle.frame_table.specs.EntryWrites.{EndsPart, HasTable, WritesPart};
 ghost use Rattle.frame_table.specs.EntryPrefixViews.{prefix_view};
 ghost use Rattle.line_parts.specs.Parts.{Pushes};
 
+use crate::columns::add_columns;
 use crate::entry_prefix::EntryPrefix;
+use crate::names::Machine;
+use crate::tables::Table;
 use dwarf_constants::Error;
 use dwarf_frame_entries::{CallFrameInstructionIter, CieOffsetEncoding, CommonInformationEntry};
 use dwarf_readers::Reader;
-use frame_table_text::{Machine, Table, add_columns, push_bytes, push_hex};
+use line_parts::{push_bytes, push_hex};
 use std::alloc::{AllocError, Global};
 use std::collections::BTreeSet;
 

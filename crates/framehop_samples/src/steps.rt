@@ -1,13 +1,13 @@
 //! Steps over a sample.
 
-ghost use Rattle.std.specs.Prelude.{◌≡◌, ◌≢◌, false, true, IfSome};
+ghost use Rattle.std.specs.Prelude.{◌≡◌, false, true, IfSome};
 ghost use Rattle.framehop_registers.specs.Callback.{read_answer};
 ghost use Rattle.framehop_unwinder.specs.Frames.{frame_of};
 ghost use Rattle.framehop_unwinder.specs.IdViews.{StepsBy, has_both, modules_by};
 ghost use Rattle.framehop_unwinder.specs.Memory.{WantsFrom};
 ghost use Rattle.framehop_unwinder.specs.Trials.{StaysUnlessStepped, StepsAs, wants_memory};
-ghost use Rattle.framehop_samples.specs.Samples.{is_known, words_of};
-ghost use Rattle.framehop_samples.specs.Steps.{AsksAsSaid, CountsBy, KeepsModules, SampleSteps, TakesNoMemory, outcome_in};
+ghost use Rattle.framehop_samples.specs.Samples.{words_of};
+ghost use Rattle.framehop_samples.specs.Steps.{AsksAsSaid, CountsBy, IsAskedFor, KeepsModules, SampleSteps, TakesNoMemory, outcome_in};
 
 use crate::sample::{AskedSample, Sample};
 use framehop_rules::{Error, FrameAddress};
@@ -22,13 +22,13 @@ pub enum SampleStep {
     NeedsWord(u64),
 }
 
-// What was asked for, if nothing is known of it.
+// What was asked for, if the sample asks and nothing is known of it.
 #[inline(always)]
 fn needed(sample: &Sample<'_>, wanted: Option<u64>) -> Option<u64>
-    ensures unknown { IfSome result (λ address. is_known sample.now address ≡ false) }
+    ensures { IfSome result (IsAskedFor sample.now) }
 {
     let address = wanted?;
-    if sample.knows(address) {
+    if sample.asks == 0 || sample.knows(address) {
         None
     } else {
         Some(address)
@@ -92,7 +92,7 @@ pub fn step_in_sample<A: ModuleUnwinding>(
     SampleStep::Answered(step)
 }
 
-// Makes a step over a sample that asks for words. Of one that was asked for and isn't known the registers are those before.
+// Makes a step over a sample that asks for words: none if one has to be known first.
 #[inline(never)]
 fn step_or_need<A: ModuleUnwinding>(
     session: &mut Session<A>,
@@ -102,8 +102,7 @@ fn step_or_need<A: ModuleUnwinding>(
     regs: &mut A::UnwindRegs,
     sample: &Sample<'_>,
 ) -> SampleStep
-    requires both { has_both session.old unwinder cache ≡ true }
-    requires asks { sample.now.asks ≢ 0 }
+    requires { has_both session.old unwinder cache ≡ true }
     ensures step { SampleSteps result regs.old regs.new
         (outcome_in A.meanings session.old unwinder address regs.old sample.now) }
     ensures asks { AsksAsSaid result sample.now }

@@ -1,0 +1,4 @@
+pub mod LastAt
+pub mod Ranked
+pub mod Reaches
+pub mod TableEntries

@@ -2,6 +2,7 @@
 #![tactic(auto)]
 
 mod entries;
+mod functions;
 mod index;
 mod tables;
 

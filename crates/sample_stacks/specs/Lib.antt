@@ -1,4 +1,8 @@
 pub mod KernelFrames
+pub mod Known
+pub mod Merging
+pub mod Modules
+pub mod Ranges
 pub mod SampleFrames
 pub mod SampleMeanings
 pub mod SampleWalks

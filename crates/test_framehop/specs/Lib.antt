@@ -1,1 +1,3 @@
+pub mod Callers
+pub mod Tables
 pub mod WorkedHeader

@@ -6,6 +6,7 @@ ghost use Rattle.std.specs.List.{All};
 ghost use Rattle.framehop_histories.specs.CommandViews.{OfCallback};
 
 use crate::modules::module_with;
+use crate::worked::word_at;
 use framehop::aarch64::{self, SessionAarch64, UnwindRegsAarch64};
 use framehop::histories::{Answer, Command};
 use framehop::x86_64::{self, SessionX86_64, SlotCount, UnwindRegsX86_64};
@@ -17,7 +18,6 @@ use framehop_unwinder::Module;
 use std::alloc::{AllocError, Global};
 use std::collections::VecDeque;
 use test_readers::WORKED;
-use test_rules::word_at;
 
 /// A section of aarch64: a CIE, and an FDE of sixteen bytes of code at 0x1000, which pushes X29 and X30 by
 /// its first instruction.

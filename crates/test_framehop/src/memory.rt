@@ -9,6 +9,7 @@ use crate::sessions::{next_frame, session_of, step};
 use crate::steps::{
     BY_FRAME, BY_WORD, FIRST, Registers, Stepped, cache_of, frame_of, try_step, unwinder_of,
 };
+use crate::worked::word_at;
 use framehop::x86_64::UnwindRegsX86_64;
 use framehop::{
     Cache, CacheStats, Error, Generations, LoadError, ModuleUnwinding, MustNotAllocateDuringUnwind,
@@ -18,7 +19,6 @@ use framehop_unwinder::Module;
 use std::alloc::{AllocError, Global};
 use std::process::Abort;
 use test_readers::WORKED;
-use test_rules::word_at;
 
 /// Where one more module starts, in which no frame is.
 const ONE_MORE: u64 = 0x800000;

@@ -2,13 +2,13 @@
 use crate::checks::{Check, check_on_x86_64};
 use crate::modules::{Data, module_with, shared_section};
 use crate::steps::{Registers, Stepped, frame_of};
+use crate::worked::word_at;
 use framehop::x86_64::UnwindRegsX86_64;
 use framehop::{
     CacheId, Error, FrameAddress, Generations, ModuleUnwinding, Session, StackWalk, UnwinderId,
 };
 use std::alloc::Global;
 use std::process::Abort;
-use test_rules::word_at;
 
 /// A session with an unwinder and a cache. What is refused once is asked for again.
 pub fn session_of<A: ModuleUnwinding>(rt: &impl Abort, alloc: Global) -> Session<A> {

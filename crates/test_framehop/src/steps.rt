@@ -1,4 +1,5 @@
 //! Steps over the worked stack, by an unwinder and a cache of any unwind data.
+use crate::worked::word_at;
 use framehop::x86_64::UnwindRegsX86_64;
 use framehop::{
     Cache, Error, FrameAddress, Generations, ModuleUnwinding, Unwinder, UnwinderInternal,
@@ -6,7 +7,6 @@ use framehop::{
 use framehop_unwinder::Module;
 use std::alloc::Global;
 use std::process::Abort;
-use test_rules::word_at;
 
 /// The registers ip, sp and bp.
 pub type Registers = (u64, u64, u64);

@@ -1,3 +1,5 @@
+mod Texts
+mod Walks
 pub mod OneModule
 pub mod RoadLines
 pub mod Runs

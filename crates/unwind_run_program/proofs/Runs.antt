@@ -15,8 +15,8 @@ use Rattle.framehop_unwinder.specs.Progress.{SessionModel, IsAt}
 use Rattle.framehop_histories.specs.Commands.{Act, CommandState, Reply, Unknown}
 use Rattle.framehop_histories.specs.Performs.{IsIn, IsObeyed}
 use Rattle.framehop_histories.specs.StateAfter.{state_after}
-use Rattle.unwind_run_session.specs.Outputs.{CommandOutput, IsOutput, is_refusal, output_of_act, text_for, unknown_line, without_walks}
-use Rattle.unwind_run_session.specs.declared.commands.Written.{Written}
+use Rattle.unwind_run_program.specs.Outputs.{CommandOutput, IsOutput, is_refusal, output_of_act, text_for, unknown_line, without_walks}
+use Rattle.unwind_run_program.specs.declared.commands.Written.{Written}
 use Rattle.framehop_registers.specs.declared.error.Error.{Error}
 use Rattle.unwind_run_document.specs.declared.command.Command.{Command}
 use Rattle.unwind_run_document.specs.Tasks.{Task}

@@ -1,5 +1,7 @@
 pub mod Lines
+pub mod Outputs
 pub mod Registers
+pub mod Replies
 pub mod Roads
 pub mod RoadsAlike
 pub mod SectionViews

@@ -1,7 +1,7 @@
 -- The lines that a run writes, as bytes of ASCII text.
 use Rattle.std.specs.Prelude.{ℕ, List, ◌++◌, codes, Option, Some, None, Result, Ok, Err}
 use Rattle.json_program.specs.Lines.{hexadecimal, line}
-use Rattle.unwind_run_session.specs.Lines.{error_name}
+use Rattle.unwind_run_program.specs.Replies.{error_name}
 use Rattle.framehop_rules.specs.Outcome.{Outcome, Caller, answer_of_outcome, registers_after}
 use Rattle.framehop_registers.specs.declared.error.Error.{Error}
 

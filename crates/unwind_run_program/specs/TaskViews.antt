@@ -5,8 +5,8 @@ use Rattle.framehop_unwinder.specs.State.{SessionState}
 use Rattle.unwind_run_document.specs.Made.{Made}
 use Rattle.unwind_run_document.specs.Sound.{IsSoundTask}
 use Rattle.unwind_run_document.specs.Tasks.{Task}
-use Rattle.unwind_run_session.specs.Outputs.{Outputs}
-use Rattle.unwind_run_session.specs.declared.commands.Written.{Written}
+use Rattle.unwind_run_program.specs.Outputs.{Outputs}
+use Rattle.unwind_run_program.specs.declared.commands.Written.{Written}
 use Rattle.unwind_run_program.specs.Registers.{RegisterForms}
 use Rattle.unwind_run_program.specs.Sections.{DataForms}
 use Rattle.unwind_run_program.specs.Text.{output_of}

@@ -31,7 +31,7 @@ use Rattle.unwind_run_program.specs.Lines.{outcome_line, step_line}
 use Rattle.unwind_run_program.specs.Registers.{RegisterForms, forms_aarch64, forms_x86_64}
 use Rattle.unwind_run_program.specs.Roads.{stated_section, stated_header, module_at}
 use Rattle.framehop_unwinder.specs.Progress.{SessionModel}
-use Rattle.unwind_run_session.specs.Outputs.{CommandOutput, beginning, writes, output_of_act, output_of_occupancy, output_of_stats, output_of_walk}
+use Rattle.unwind_run_program.specs.Outputs.{CommandOutput, beginning, writes, output_of_act, output_of_occupancy, output_of_stats, output_of_walk}
 
 -- the words of a stack: one at each eighth byte from its start, as far as they go
 abbrev pub words_of : StackWords → Words

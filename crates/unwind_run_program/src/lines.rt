@@ -5,10 +5,10 @@ ghost use Rattle.framehop_registers.specs.declared.error.Error.TheVariants.{OutO
 ghost use Rattle.unwind_run_program.specs.Lines.{answer_text, step_line};
 
 use crate::perform::DocumentModules;
+use crate::replies::ErrorName;
 use framehop_rules::Error;
 use std::alloc::{AllocError, Global};
 use std::fmt;
-use unwind_run_session::ErrorName;
 
 /// Shows the result of a step.
 #[derive(Clone, Copy)]

@@ -10,6 +10,8 @@ ghost use Rattle.unwind_run_program.specs.TaskViews.{CarriesOut, IsSound};
 ghost use Rattle.unwind_run_program.specs.Text.{frame_at, words_of};
 ghost use Rattle.unwind_run_document.specs.declared.command.FrameKind.TheVariants.{Ra};
 
+use crate::commands;
+use crate::commands::{LimitedWalk, Written};
 use crate::lines::step_line;
 use crate::roads::road_lines;
 use framehop_histories as histories;
@@ -21,8 +23,6 @@ use unwind_run_document::{
     Command, FrameKind, LoadCommand, RoadsCommand, Stack, StatedOptions, StatedRegisters,
     StatedSection, StepCommand, WalkCommand,
 };
-use unwind_run_session as commands;
-use unwind_run_session::{LimitedWalk, Written};
 
 /// The unwind data of the modules of documents: what their sections give.
 pub(crate) trait DocumentModules: ModuleUnwinding {

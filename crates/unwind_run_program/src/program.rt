@@ -3,7 +3,7 @@
 ghost use Rattle.std.specs.Prelude.{◌≡◌, false, IfOk, IfSome, IsErrOf};
 ghost use Rattle.json_program.specs.Errors.{ReportsFailures};
 ghost use Rattle.json_program.specs.Stream.{WritesText};
-ghost use Rattle.unwind_run_session.specs.Outputs.{beginning};
+ghost use Rattle.unwind_run_program.specs.Outputs.{beginning};
 ghost use Rattle.unwind_run_document.specs.Sound.{AreSound};
 ghost use Rattle.unwind_run_document.specs.Document.{nothing_made};
 ghost use Rattle.unwind_run_document.specs.CommandViews.{content_view, tasks_of};

@@ -7,6 +7,7 @@ ghost use Rattle.unwind_run_program.specs.Roads.{address_behind, headed_section,
 ghost use Rattle.unwind_run_program.specs.Text.{road_line, road_lines, words_of};
 ghost use Rattle.unwind_run_document.specs.declared.command.FrameKind.TheVariants.{Ra};
 
+use crate::alone::step_alone;
 use crate::lines::step_line;
 use crate::perform::{DocumentModules, frame_address, word_at};
 use framehop_code_rules::CodeRules;
@@ -16,7 +17,6 @@ use std::fmt;
 use unwind_run_document::{
     AddressRange, RoadsCommand, StatedLookup, StatedOptions, StatedSection, StatedTables,
 };
-use unwind_run_session::step_alone;
 
 /// Nothing is asked for.
 const PLAIN: StatedOptions = StatedOptions {

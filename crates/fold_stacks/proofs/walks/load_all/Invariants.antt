@@ -1,6 +1,6 @@
 use Rattle.std.proofs.Common.{◌≡◌, ◌<◌}
 use Rattle.std.specs.Bool.{OnFalse, OnTrue}
-use Rattle.process_modules.specs.Modules.{ranges_left}
+use Rattle.sample_stacks.specs.Modules.{ranges_left}
 use Rattle.fold_stacks.proofs.walks.load_all.Given as goal
 
 -- fewer ranges are left if one was loaded, and else nothing is changed

@@ -1,5 +1,5 @@
 use Rattle.std.proofs.Common.{◌≡◌}
-use Rattle.process_modules.specs.Modules.{ranges_left}
+use Rattle.sample_stacks.specs.Modules.{ranges_left}
 use Rattle.fold_stacks.proofs.walks.take_walk.Given as goal
 
 abbrev pub invariant-walks : goal.invariant-walks

@@ -1,7 +1,7 @@
 use Rattle.std.proofs.Common.{◌≡◌, ◌∙◌, subst}
 use Rattle.framehop_histories.specs.Commands.{Load}
 use Rattle.unwind_run_document.specs.CommandViews.{load_view}
-use Rattle.unwind_run_session.specs.Outputs.{Outputs, output_of_act}
+use Rattle.unwind_run_program.specs.Outputs.{Outputs, output_of_act}
 use Rattle.unwind_run_program.specs.Lines.{step_line}
 use Rattle.unwind_run_program.specs.Text.{loaded_by}
 use Rattle.unwind_run_program.proofs.perform.load_module.Goals as goal

@@ -1,6 +1,6 @@
 use Rattle.std.proofs.Common.{sym, subst}
 use Rattle.std.specs.Prelude.{IfOk, string_bytes}
-use Rattle.unwind_run_session.specs.Outputs.{IsOutput, output_of_walk}
+use Rattle.unwind_run_program.specs.Outputs.{IsOutput, output_of_walk}
 use Rattle.unwind_run_document.specs.CommandViews.{words_view}
 use Rattle.unwind_run_program.specs.Text.{words_of}
 use Rattle.unwind_run_program.proofs.StillCallback.{answers_always}

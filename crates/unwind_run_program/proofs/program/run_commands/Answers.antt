@@ -5,7 +5,7 @@ use Rattle.json_program.specs.Stream.{IsWritten}
 use Rattle.framehop_unwinder.specs.State.{SessionState, empty_state}
 use Rattle.framehop_unwinder.specs.History.{HaveHistories}
 use Rattle.framehop_unwinder.specs.Progress.{IsAt}
-use Rattle.unwind_run_session.specs.Outputs.{IsOutput, beginning}
+use Rattle.unwind_run_program.specs.Outputs.{IsOutput, beginning}
 use Rattle.unwind_run_document.specs.Document.{nothing_made}
 use Rattle.unwind_run_document.specs.Made.{made_after}
 use Rattle.unwind_run_document.specs.Sound.{AreSound}

@@ -1,7 +1,7 @@
 use Rattle.std.proofs.Common.{◌≡◌, reverse, false, vec_len}
 use Rattle.json_program.specs.Stream.{IsWritten}
 use Rattle.framehop_unwinder.specs.Progress.{SessionModel, IsAt}
-use Rattle.unwind_run_session.specs.Outputs.{beginning}
+use Rattle.unwind_run_program.specs.Outputs.{beginning}
 use Rattle.unwind_run_document.specs.Made.{Made}
 use Rattle.unwind_run_document.specs.Sound.{AreSound}
 use Rattle.unwind_run_document.specs.CommandViews.{tasks_of}

@@ -1,7 +1,0 @@
--- What contracts see of bytes that are loaded.
-use Rattle.backtrace_files.specs.SegmentSections.{Placed}
-use Rattle.backtrace_files.specs.declared.segments.PlacedBytes.{PlacedBytes}
-
--- the address of the first, and the bytes
-abbrev pub placed_seen : PlacedBytes → Placed
-placed_seen placed = record { address = placed.address; bytes = placed.bytes.now }

@@ -1,3 +1,0 @@
-pub mod Agree
-pub mod Overlapping
-pub mod Sorted

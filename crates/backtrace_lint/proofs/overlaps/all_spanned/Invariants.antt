@@ -1,0 +1,8 @@
+use Rattle.std.proofs.Common.{◌≡◌, ◌++◌, drop}
+use Rattle.std.specs.List.{filter_map}
+use Rattle.backtrace_lint.specs.Overlaps.{spanned}
+use Rattle.backtrace_lint.proofs.overlaps.all_spanned.Given as goal
+
+-- what was found, with what is found of the FDEs that are left
+abbrev pub invariant-loop-fde : goal.invariant-loop-fde
+invariant-loop-fde l = l.found.items ++ filter_map spanned (drop l.fde-index l.fdes) ≡ filter_map spanned l.fdes

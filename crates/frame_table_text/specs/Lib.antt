@@ -1,4 +1,0 @@
-pub mod Columns
-pub mod Names
-pub mod TableViews
-pub mod Tables

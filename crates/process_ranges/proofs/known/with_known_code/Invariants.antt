@@ -1,7 +1,0 @@
-use Rattle.std.proofs.Common.{◌≡◌, ◌++◌, drop}
-use Rattle.process_ranges.specs.Known.{ranges_seen}
-use Rattle.process_ranges.proofs.known.with_known_code.Given as goal
-
--- what was found, with what is left
-abbrev pub invariant-loop-range : goal.invariant-loop-range
-invariant-loop-range l = ranges_seen l.found.items ++ drop l.range-index l.ranges ≡ l.ranges

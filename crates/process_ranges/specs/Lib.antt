@@ -1,3 +1,0 @@
-pub mod Known
-pub mod Merging
-pub mod Ranges
