@@ -1,4 +1,4 @@
-//! Looks at the places of crates/bench_parts by the original's detectors alone, and prints the same line. `bench/analysis --original`
+//! Looks at the places of crates/cases_unwinding by the original's detectors alone, and prints the same line. `bench/analysis --original`
 //! builds it, with the original's sources beside it.
 #![allow(dead_code)]
 

@@ -1,4 +1,4 @@
-//! Looks addresses up in a section `__unwind_info` by the crate `macho-unwind-info`, as crates/bench_parts does.
+//! Looks addresses up in a section `__unwind_info` by the crate `macho-unwind-info`, as crates/cases_unwinding does.
 
 use macho_unwind_info::opcodes::OpcodeX86_64;
 use macho_unwind_info::UnwindInfo;

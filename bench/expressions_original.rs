@@ -1,4 +1,4 @@
-//! Evaluates the expression of crates/bench_parts by the original's `gimli`, and prints the same line. `bench/expressions
+//! Evaluates the expression of crates/cases_unwinding by the original's `gimli`, and prints the same line. `bench/expressions
 //! --original` builds it.
 
 use gimli::{

@@ -1,4 +1,4 @@
-/* What crates/bench_parts does, as a plain program: the same input, the same work, the same output. */
+/* What crates/cases_unwinding does, as a plain program: the same input, the same work, the same output. */
 #include <stdint.h>
 #include <stdio.h>
 #include <stdlib.h>

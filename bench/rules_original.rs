@@ -1,4 +1,4 @@
-//! Makes the steps of crates/bench_parts by the original's rule cache and rules alone, and prints the same line. `bench/rules
+//! Makes the steps of crates/cases_unwinding by the original's rule cache and rules alone, and prints the same line. `bench/rules
 //! --original` builds it, with the original's sources beside it.
 #![allow(dead_code)]
 

@@ -38,8 +38,8 @@ def use_one_processor():
 
 
 def bench_part(name):
-    """The built program of bench_parts with the name of a part, as a command."""
-    return [built_program("bench_parts"), name]
+    """The built program of cases_unwinding with the name of a part, as a command."""
+    return [built_program("cases_unwinding"), "part", name]
 
 
 def words_of(program):

@@ -1,4 +1,0 @@
-pub mod Numbers
-pub mod Codes
-pub mod Little
-pub mod LookUps
