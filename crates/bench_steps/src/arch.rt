@@ -3,7 +3,7 @@
 
 use crate::modules::{TimedData, TimedModule};
 use crate::work::FirstRegisters;
-use anyhow::{Result, bail};
+use anyhow::{Context, Result};
 use framehop::aarch64::{ArchAarch64, PtrAuthMask, UnwindRegsAarch64};
 use framehop::x86_64::{ArchX86_64, SlotCount, UnwindRegsX86_64};
 use framehop::{
@@ -72,10 +72,8 @@ fn load<U: Unwinder<Module = TimedModule>>(
     generations: &mut Generations,
     module: TimedModule,
 ) -> Result<()> {
-    if unwinder.add_module(generations, module).is_err() {
-        bail!("the module was not loaded");
-    }
-    Ok(())
+    let added = unwinder.add_module(generations, module);
+    added.ok().context("the module was not loaded")
 }
 
 /// An unwinder with a module.

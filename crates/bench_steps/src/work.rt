@@ -1,6 +1,8 @@
 //! What is timed: a module's section, and walks from first frames over stacks.
 
-use anyhow::{Result, bail};
+ghost use Rattle.std.specs.Prelude.{◌≡◌, IfOk, length};
+
+use anyhow::{Context, Result};
 use dwarf_endianity::{Endianity, LittleEndian};
 use std::alloc::Global;
 use std::io::Read;
@@ -76,34 +78,29 @@ pub fn read_input<R: AllocGlobal + Input>(rt: &R) -> Result<Vec<u8>> {
     Ok(input)
 }
 
+// Takes so many bytes.
+fn take<'a>(bytes: &mut Bytes<'a>, count: usize) -> Result<&'a [u8]>
+    ensures { IfOk result (λ taken. length taken.now ≡ count) }
+{
+    let left = bytes.left;
+    let taken = left.get(..count).context("the input ends too soon")?;
+    bytes.left = &left[count..];
+    Ok(taken)
+}
+
 /// Reads a number of four bytes, the low byte first.
 pub fn read_u32(bytes: &mut Bytes<'_>) -> Result<u32> {
-    if bytes.left.len() < 4 {
-        bail!("the input ends too soon");
-    }
-    let number = LittleEndian.read_u32(bytes.left);
-    bytes.left = &bytes.left[4..];
-    Ok(number)
+    Ok(LittleEndian.read_u32(take(bytes, 4)?))
 }
 
 /// Reads a number of eight bytes, the low byte first.
 pub fn read_u64(bytes: &mut Bytes<'_>) -> Result<u64> {
-    if bytes.left.len() < 8 {
-        bail!("the input ends too soon");
-    }
-    let number = LittleEndian.read_u64(bytes.left);
-    bytes.left = &bytes.left[8..];
-    Ok(number)
+    Ok(LittleEndian.read_u64(take(bytes, 8)?))
 }
 
 /// Reads so many bytes.
 pub fn read_bytes(alloc: Global, bytes: &mut Bytes<'_>, count: u32) -> Result<Vec<u8>> {
-    if count as usize > bytes.left.len() {
-        bail!("the input ends too soon");
-    }
-    let (read, left) = bytes.left.split_at(count as usize);
-    bytes.left = left;
-    Ok(read.to_vec(alloc)?)
+    Ok(take(bytes, count as usize)?.to_vec(alloc)?)
 }
 
 /// Reads what is to be timed: the rounds, the module's base and its end, and the addresses of `.text` and `.eh_frame` as the

@@ -8,7 +8,8 @@
 //! - `parts`: parts of the unwinder, a line each, with what it is to read.
 //! - `walks_x86_64` and other names of benches: what [`benches`] says, of the input of a bench.
 //!
-//! With the arguments `part`, the name of a part and its own arguments it runs or times that one on standard input, as scripts in `bench/` do.
+//! With the arguments `part`, the name of a part and its own arguments it runs or times that one on standard input, as scripts in
+//! `bench/` do.
 #![tactic(auto)]
 
 mod architectures;
