@@ -7,10 +7,11 @@ ghost use Rattle.framehop_calls.specs.CallViews.{step_call};
 ghost use Rattle.framehop_calls.specs.Places.{frame_numbered};
 ghost use Rattle.framehop_calls.specs.Steps.{StepsByNumber, return_address_by, status_of_numbers, step_status, word_by, word_of_error};
 
+use crate::sample::Sample;
+use crate::sample_steps::{SampleStep, step_in_sample};
 use crate::session::CountedSession;
 use crate::status::{END_OF_STACK, NEED_WORD, NO_CACHE, NO_UNWINDER, OK, error_status};
 use framehop_rules::{Error, FrameAddress};
-use framehop_samples::{Sample, SampleStep, step_in_sample};
 use framehop_unwinder::{CacheId, ModuleUnwinding, UnwinderId};
 
 /// A call for a step: the unwinder and the cache by their numbers, the frame's address and registers, and where what the step gives is

@@ -1,6 +1,6 @@
 -- Frames that a walk passes, one after the other.
 use Rattle.std.proofs.Common.{ℕ, List, [], ◌∷◌, ◌++◌, subst}
-use Rattle.framehop_samples.specs.Walks.{Passes, Through, WalkIn}
+use Rattle.framehop_calls.specs.SampleWalks.{Passes, Through, WalkIn}
 
 -- a walk that passes some frames, and from there others, passes all of them
 pub passes_both : {Data Rule Registers : Type 0} (t : Through Data Rule Registers) (old mid new : WalkIn Data Rule Registers) (some others : List ℕ)

@@ -1,10 +1,10 @@
 use Rattle.framehop_unwinder.specs.IdViews.{modules_by}
 use Rattle.framehop_unwinder.specs.Judge.{judge}
-use Rattle.framehop_samples.specs.Samples.{words_of}
-use Rattle.framehop_samples.specs.Walks.{through, walk_of}
-use Rattle.framehop_samples.specs.declared.walks.WalkPlace.TheVariants as place
-use Rattle.framehop_samples.proofs.Moves.{begins, counts-answered, counts-start, goes-on, needs-none, wants-none}
-use Rattle.framehop_samples.proofs.walks.move_on.Goals as goal
+use Rattle.framehop_calls.specs.Samples.{words_of}
+use Rattle.framehop_calls.specs.SampleWalks.{through, walk_of}
+use Rattle.framehop_calls.specs.declared.sample_walks.WalkPlace.TheVariants as place
+use Rattle.framehop_calls.proofs.Moves.{begins, counts-answered, counts-start, goes-on, needs-none, wants-none}
+use Rattle.framehop_calls.proofs.sample_walks.move_on.Goals as goal
 
 pub returns-in-Starts-clause-moved : goal.returns-in-Starts-clause-moved
 returns-in-Starts-clause-moved g c =

@@ -11,15 +11,15 @@ use Rattle.framehop_unwinder.specs.Frames.{Frame, first_frame, frame_of, later_f
 use Rattle.framehop_unwinder.specs.State.{SessionState, StepsThrough}
 use Rattle.framehop_unwinder.specs.Trials.{wants_memory}
 use Rattle.framehop_unwinder.specs.Walk.{Judgment, At, Over, Walk, Move, move, move_by, move_to}
-use Rattle.framehop_samples.specs.Steps.{CountsAsStep, IsAnswered, TakesNoMemory}
-use Rattle.framehop_samples.specs.Walks.{CountsAsMove, Gives, GoesBy, GoesOn, MoveNeeds, MovesBy, MovesCaches, MovesWithoutMemory, StopsBy, Through, WalkIn, walk_in, walk_of}
-use Rattle.framehop_samples.specs.declared.sample.Sample.{Sample}
-use Rattle.framehop_samples.specs.declared.steps.SampleStep.TheVariants.{Answered}
-use Rattle.framehop_samples.specs.declared.walks.SampleMove.{SampleMove}
-use Rattle.framehop_samples.specs.declared.walks.SampleMove.TheVariants.{Stops}
-use Rattle.framehop_samples.specs.declared.walks.WalkEnd.TheVariants.{EndOfStack, Failed}
-use Rattle.framehop_samples.specs.declared.walks.WalkPlace.{WalkPlace}
-use Rattle.framehop_samples.specs.declared.walks.WalkPlace.TheVariants as place
+use Rattle.framehop_calls.specs.SampleSteps.{CountsAsStep, IsAnswered, TakesNoMemory}
+use Rattle.framehop_calls.specs.SampleWalks.{CountsAsMove, Gives, GoesBy, GoesOn, MoveNeeds, MovesBy, MovesCaches, MovesWithoutMemory, StopsBy, Through, WalkIn, walk_in, walk_of}
+use Rattle.framehop_calls.specs.declared.sample.Sample.{Sample}
+use Rattle.framehop_calls.specs.declared.sample_steps.SampleStep.TheVariants.{Answered}
+use Rattle.framehop_calls.specs.declared.sample_walks.SampleMove.{SampleMove}
+use Rattle.framehop_calls.specs.declared.sample_walks.SampleMove.TheVariants.{Stops}
+use Rattle.framehop_calls.specs.declared.sample_walks.WalkEnd.TheVariants.{EndOfStack, Failed}
+use Rattle.framehop_calls.specs.declared.sample_walks.WalkPlace.{WalkPlace}
+use Rattle.framehop_calls.specs.declared.sample_walks.WalkPlace.TheVariants as place
 
 module _ {Registers : Type 0} (frame : Frame) (registers : Registers) where
   -- the walk at the frame

@@ -2,11 +2,11 @@
 
 ghost use Rattle.std.specs.Prelude.{◌≡◌, false, true};
 ghost use Rattle.framehop_unwinder.specs.IdViews.{has_both};
-ghost use Rattle.framehop_samples.specs.Steps.{KeepsModules};
-ghost use Rattle.framehop_samples.specs.Walks.{GoesBy, GoesOn, MoveNeeds, MovesInSample, MovesWithoutMemory, NeedsUnknown, WalksAs, WithoutMemory, WritesFrames, through, walk_of};
+ghost use Rattle.framehop_calls.specs.SampleSteps.{KeepsModules};
+ghost use Rattle.framehop_calls.specs.SampleWalks.{GoesBy, GoesOn, MoveNeeds, MovesInSample, MovesWithoutMemory, NeedsUnknown, WalksAs, WithoutMemory, WritesFrames, through, walk_of};
 
 use crate::sample::Sample;
-use crate::steps::{SampleStep, step_in_sample};
+use crate::sample_steps::{SampleStep, step_in_sample};
 use framehop_rules::{Error, FrameAddress};
 use framehop_unwinder::{CacheId, ModuleUnwinding, Session, UnwinderId};
 

@@ -6,8 +6,8 @@ ghost use Rattle.framehop_unwinder.specs.Frames.{frame_of};
 ghost use Rattle.framehop_unwinder.specs.IdViews.{StepsBy, has_both, modules_by};
 ghost use Rattle.framehop_unwinder.specs.Memory.{WantsFrom};
 ghost use Rattle.framehop_unwinder.specs.Trials.{StaysUnlessStepped, StepsAs, wants_memory};
-ghost use Rattle.framehop_samples.specs.Samples.{words_of};
-ghost use Rattle.framehop_samples.specs.Steps.{AsksAsSaid, CountsBy, IsAskedFor, KeepsModules, SampleSteps, TakesNoMemory, outcome_in};
+ghost use Rattle.framehop_calls.specs.Samples.{words_of};
+ghost use Rattle.framehop_calls.specs.SampleSteps.{AsksAsSaid, CountsBy, IsAskedFor, KeepsModules, SampleSteps, TakesNoMemory, outcome_in};
 
 use crate::sample::{AskedSample, Sample};
 use framehop_rules::{Error, FrameAddress};
@@ -123,9 +123,4 @@ fn step_or_need<A: ModuleUnwinding>(
         }
         None => SampleStep::Answered(step),
     }
-}
-
-/// Lets a session go. A type that has a session of one kind drops it by this call.
-pub fn let_go<A: ModuleUnwinding>(session: Session<A>) {
-    drop(session);
 }

@@ -2,7 +2,7 @@
 
 ghost use Rattle.std.specs.Prelude.{◌≡◌};
 ghost use Rattle.framehop_registers.specs.Callback.{read_answer};
-ghost use Rattle.framehop_samples.specs.Samples.{is_known, place_listed, word_copied, word_listed, words_of};
+ghost use Rattle.framehop_calls.specs.Samples.{is_known, place_listed, word_copied, word_listed, words_of};
 
 /// What is known of the word at an address.
 #[derive(Clone, Copy)]

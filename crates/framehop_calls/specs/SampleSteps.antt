@@ -13,10 +13,10 @@ use Rattle.framehop_unwinder.specs.State.{SessionState, StepsThrough}
 use Rattle.framehop_unwinder.specs.Trials.{StaysUnlessStepped, StepsAs, wants_memory}
 use Rattle.framehop_unwinder.specs.declared.ids.CacheId.{CacheId}
 use Rattle.framehop_unwinder.specs.declared.ids.UnwinderId.{UnwinderId}
-use Rattle.framehop_samples.specs.Samples.{is_known, words_of}
-use Rattle.framehop_samples.specs.declared.sample.Sample.{Sample}
-use Rattle.framehop_samples.specs.declared.steps.SampleStep.{SampleStep}
-use Rattle.framehop_samples.specs.declared.steps.SampleStep.TheVariants.{Answered, NeedsWord}
+use Rattle.framehop_calls.specs.Samples.{is_known, words_of}
+use Rattle.framehop_calls.specs.declared.sample.Sample.{Sample}
+use Rattle.framehop_calls.specs.declared.sample_steps.SampleStep.{SampleStep}
+use Rattle.framehop_calls.specs.declared.sample_steps.SampleStep.TheVariants.{Answered, NeedsWord}
 
 -- the outcome of a step of an unwinder from a frame with these registers, over a sample
 abbrev pub outcome_in : {Data Rule Registers : Type 0} → Meanings Data Rule Registers → SessionState Data Rule → UnwinderId → FrameAddress

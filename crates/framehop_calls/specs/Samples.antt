@@ -2,8 +2,8 @@
 use Rattle.std.specs.Prelude.{ℕ, ◌+◌, ◌-◌, List, length, take, drop, Option, Some, None, is_some, Bool, ◌==◌, nat_le, ◌&&◌, ◌||◌, if◌then◌else◌, position, slice_index_or}
 use Rattle.std.specs.Int.{from_le_bytes}
 use Rattle.framehop_registers.specs.Callback.{Words}
-use Rattle.framehop_samples.specs.declared.sample.KnownWord.{KnownWord}
-use Rattle.framehop_samples.specs.declared.sample.Sample.{Sample}
+use Rattle.framehop_calls.specs.declared.sample.KnownWord.{KnownWord}
+use Rattle.framehop_calls.specs.declared.sample.Sample.{Sample}
 use mir.Syntax.{w64}
 
 -- the word at an address in the copy, the lowest byte first, if all its bytes are there

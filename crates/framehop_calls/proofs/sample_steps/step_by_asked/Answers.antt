@@ -1,9 +1,9 @@
 use Rattle.std.proofs.Common.{◌≡◌, ◌∙◌, refl, subst}
 use Rattle.framehop_registers.specs.Callback.{read_answer}
-use Rattle.framehop_samples.specs.Samples.{words_of}
-use Rattle.framehop_samples.proofs.Calls.{if_done, is_done}
-use Rattle.framehop_samples.proofs.StillCallback.{answers_while}
-use Rattle.framehop_samples.proofs.steps.step_by_asked.Goals as goal
+use Rattle.framehop_calls.specs.Samples.{words_of}
+use Rattle.framehop_calls.proofs.Calls.{if_done, is_done}
+use Rattle.framehop_calls.proofs.StillCallback.{answers_while}
+use Rattle.framehop_calls.proofs.sample_steps.step_by_asked.Goals as goal
 
 pub returns-clause-step : goal.returns-clause-step
 returns-clause-step g c =

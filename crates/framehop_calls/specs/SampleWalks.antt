@@ -12,17 +12,17 @@ use Rattle.framehop_unwinder.specs.Trials.{wants_memory}
 use Rattle.framehop_unwinder.specs.Walk.{WalkPosition, Starts, At, Over, Walk, Move, move, move_to}
 use Rattle.framehop_unwinder.specs.declared.ids.CacheId.{CacheId}
 use Rattle.framehop_unwinder.specs.declared.ids.UnwinderId.{UnwinderId}
-use Rattle.framehop_samples.specs.Samples.{words_of}
-use Rattle.framehop_samples.specs.Steps.{IsAskedFor}
-use Rattle.framehop_samples.specs.declared.sample.Sample.{Sample}
-use Rattle.framehop_samples.specs.declared.walks.SampleMove.{SampleMove}
-use Rattle.framehop_samples.specs.declared.walks.SampleMove.TheVariants as moved
-use Rattle.framehop_samples.specs.declared.walks.SampleWalk.{SampleWalk}
-use Rattle.framehop_samples.specs.declared.walks.WalkEnd.{WalkEnd}
-use Rattle.framehop_samples.specs.declared.walks.WalkEnd.TheVariants as ending
-use Rattle.framehop_samples.specs.declared.walks.WalkPlace.{WalkPlace}
-use Rattle.framehop_samples.specs.declared.walks.WalkPlace.TheVariants as place
-use Rattle.framehop_samples.specs.declared.walks.Walked.{Walked}
+use Rattle.framehop_calls.specs.Samples.{words_of}
+use Rattle.framehop_calls.specs.SampleSteps.{IsAskedFor}
+use Rattle.framehop_calls.specs.declared.sample.Sample.{Sample}
+use Rattle.framehop_calls.specs.declared.sample_walks.SampleMove.{SampleMove}
+use Rattle.framehop_calls.specs.declared.sample_walks.SampleMove.TheVariants as moved
+use Rattle.framehop_calls.specs.declared.sample_walks.SampleWalk.{SampleWalk}
+use Rattle.framehop_calls.specs.declared.sample_walks.WalkEnd.{WalkEnd}
+use Rattle.framehop_calls.specs.declared.sample_walks.WalkEnd.TheVariants as ending
+use Rattle.framehop_calls.specs.declared.sample_walks.WalkPlace.{WalkPlace}
+use Rattle.framehop_calls.specs.declared.sample_walks.WalkPlace.TheVariants as place
+use Rattle.framehop_calls.specs.declared.sample_walks.Walked.{Walked}
 
 -- the position of a walk
 abbrev pub position_of : WalkPlace → WalkPosition

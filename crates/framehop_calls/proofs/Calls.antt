@@ -6,7 +6,7 @@ use Rattle.framehop_unwinder.specs.IdViews.{FindsHeld, cache_number, has_both, u
 use Rattle.framehop_unwinder.specs.State.{SessionState}
 use Rattle.framehop_unwinder.specs.declared.ids.CacheId.{CacheId}
 use Rattle.framehop_unwinder.specs.declared.ids.UnwinderId.{UnwinderId}
-use Rattle.framehop_samples.specs.Steps.{KeepsModules}
+use Rattle.framehop_calls.specs.SampleSteps.{KeepsModules}
 
 -- a call that names what is there is done
 pub is_done : {X A E : Type 0} (there : Bool) (result : Result A E) (old new : X) → there ≡ true → FindsHeld there result old new → IsOk result
