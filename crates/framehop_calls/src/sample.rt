@@ -62,12 +62,22 @@ impl Sample<'_> {
     }
 
     /// The word at an address, if it is known and can be read.
+    #[inline(always)]
     pub fn word(&self, address: u64) -> Result<u64, ()>
         ensures { result ≡ read_answer (words_of self.now address) }
     {
         if let Some(word) = self.copied(address) {
             return Ok(word);
         }
+        self.listed(address)
+    }
+
+    // What the list says of the word at an address.
+    #[cold]
+    #[inline(never)]
+    fn listed(&self, address: u64) -> Result<u64, ()>
+        ensures { result ≡ read_answer (word_listed self.now address) }
+    {
         let Some(place) = self.place_of(address) else {
             return Err(());
         };
@@ -107,17 +117,9 @@ impl AskedSample<'_, '_> {
         ensures answer { result ≡ read_answer (word_listed self.old.sample.now address) }
         ensures sample { self.new.sample ≡ self.old.sample }
     {
-        let Some(place) = self.sample.place_of(address) else {
-            if self.wanted.is_none() {
-                self.wanted = Some(address);
-            }
-            return Err(());
-        };
-        let known = &self.sample.known[place];
-        if known.is_readable != 0 {
-            Ok(known.word)
-        } else {
-            Err(())
+        if self.wanted.is_none() && self.sample.place_of(address).is_none() {
+            self.wanted = Some(address);
         }
+        self.sample.listed(address)
     }
 }
