@@ -10,7 +10,7 @@ use Rattle.framehop_rules.specs.Outcome.{Outcome, Caller, Ends, Refuses, Answers
 use Rattle.framehop_unwinder.specs.Frames.{Frame, first_frame, frame_of, later_frame}
 use Rattle.framehop_unwinder.specs.State.{SessionState, StepsThrough}
 use Rattle.framehop_unwinder.specs.Trials.{wants_memory}
-use Rattle.framehop_unwinder.specs.Walk.{Judgment, At, Over, Walk, Move, move, move_by, move_to}
+use Rattle.framehop_unwinder.specs.Walk.{Judgment, At, Over, Walk, move, move_by, move_to}
 use Rattle.framehop_calls.specs.SampleSteps.{CountsAsStep, IsAnswered, TakesNoMemory}
 use Rattle.framehop_calls.specs.SampleWalks.{CountsAsMove, Gives, GoesBy, GoesOn, MoveNeeds, MovesBy, MovesCaches, MovesWithoutMemory, StopsBy, Through, WalkIn, walk_in, walk_of}
 use Rattle.framehop_calls.specs.declared.sample.Sample.{Sample}

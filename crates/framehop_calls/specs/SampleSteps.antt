@@ -1,5 +1,5 @@
 -- Steps over a sample.
-use Rattle.std.specs.Prelude.{ℕ, ◌≡◌, ◌≢◌, List, Bool, false, Option, Result, Ok, Err}
+use Rattle.std.specs.Prelude.{ℕ, ◌≡◌, ◌≢◌, Bool, false, Option, Result, Err}
 use Rattle.framehop_registers.specs.declared.code_address.FrameAddress.{FrameAddress}
 use Rattle.framehop_registers.specs.declared.error.Error.{Error}
 use Rattle.framehop_registers.specs.declared.error.Error.TheVariants.{OutOfMemory}

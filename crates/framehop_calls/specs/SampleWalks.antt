@@ -9,7 +9,7 @@ use Rattle.framehop_unwinder.specs.IdViews.{cache_number, unwinder_number}
 use Rattle.framehop_unwinder.specs.Judge.{judge}
 use Rattle.framehop_unwinder.specs.State.{SessionState, MovesThrough, modules_at}
 use Rattle.framehop_unwinder.specs.Trials.{wants_memory}
-use Rattle.framehop_unwinder.specs.Walk.{WalkPosition, Starts, At, Over, Walk, Move, move, move_to}
+use Rattle.framehop_unwinder.specs.Walk.{WalkPosition, Starts, At, Over, Walk, Move, move}
 use Rattle.framehop_unwinder.specs.declared.ids.CacheId.{CacheId}
 use Rattle.framehop_unwinder.specs.declared.ids.UnwinderId.{UnwinderId}
 use Rattle.framehop_calls.specs.Samples.{words_of}

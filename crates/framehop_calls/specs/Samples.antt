@@ -1,5 +1,5 @@
 -- The words of a sample: a copy of the stack, and a list of what is known beside it.
-use Rattle.std.specs.Prelude.{ℕ, ◌+◌, ◌-◌, List, length, take, drop, Option, Some, None, is_some, Bool, ◌==◌, nat_le, ◌&&◌, ◌||◌, if◌then◌else◌, position, slice_index_or}
+use Rattle.std.specs.Prelude.{ℕ, ◌+◌, ◌-◌, length, take, drop, Option, Some, None, is_some, Bool, ◌==◌, nat_le, ◌&&◌, ◌||◌, if◌then◌else◌, position, slice_index_or}
 use Rattle.std.specs.Int.{from_le_bytes}
 use Rattle.framehop_registers.specs.Callback.{Words}
 use Rattle.framehop_calls.specs.declared.sample.KnownWord.{KnownWord}
