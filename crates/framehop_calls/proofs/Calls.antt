@@ -17,6 +17,11 @@ pub is_done : {X A E : Type 0} (there : Bool) (result : Result A E) (old new : X
 is_done there (Ok answer) old new is found = refl
 is_done there (Err error) old new is found = absurd (let none : true ≡ false = sym is ∙ found.only in cc)
 
+-- what a fact gives of what a call returns if it is done
+pub if_ok : {A E : Type 0} (result : Result A E) (Given Found : A → Type 0) → ((a : A) → Given a → Found a) → IfOk result Given → IfOk result Found
+if_ok (Ok a) Given Found gives given = gives a given
+if_ok (Err e) Given Found gives given = tt
+
 -- what two facts give of what a call returns if it is done
 pub both_if_done : {A E : Type 0} (result : Result A E) (One Other Both : A → Type 0) → ((a : A) → One a → Other a → Both a)
     → IfOk result One → IfOk result Other → IfOk result Both

@@ -28,10 +28,20 @@ pub record IsAnswered {Registers : Type 0} (answer : Result (Option ℕ) Error) 
   pub step : StepsAs answer old new outcome
   pub stays : StaysUnlessStepped answer old new
 
+-- an answered step is the one of an unwinder from a frame with these registers, over a sample
+abbrev pub AnswersIn : {Data Rule Registers : Type 0} → Meanings Data Rule Registers → SessionState Data Rule → UnwinderId → FrameAddress
+    → Sample → Result (Option ℕ) Error → Registers → Registers → Type 0
+AnswersIn m session unwinder address sample answer old new = IsAnswered answer old new (outcome_in m session unwinder address old sample)
+
 -- a step is the one of an outcome, or needs a word and leaves the registers
 abbrev pub SampleSteps : {Registers : Type 0} → SampleStep → Registers → Registers → Outcome (Caller Registers) → Type 0
 SampleSteps (Answered answer) old new outcome = IsAnswered answer old new outcome
 SampleSteps (NeedsWord address) old new outcome = new ≡ old
+
+-- a step is the one of an unwinder from a frame with these registers, over a sample
+abbrev pub StepsIn : {Data Rule Registers : Type 0} → Meanings Data Rule Registers → SessionState Data Rule → UnwinderId → FrameAddress
+    → Sample → SampleStep → Registers → Registers → Type 0
+StepsIn m session unwinder address sample made old new = SampleSteps made old new (outcome_in m session unwinder address old sample)
 
 -- A word is asked for only if the sample says so and nothing is known of it.
 pub record IsAskedFor (sample : Sample) (address : ℕ) : Type 0 where

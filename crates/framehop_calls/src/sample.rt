@@ -117,9 +117,17 @@ impl AskedSample<'_, '_> {
         ensures answer { result ≡ read_answer (word_listed self.old.sample.now address) }
         ensures sample { self.new.sample ≡ self.old.sample }
     {
-        if self.wanted.is_none() && self.sample.place_of(address).is_none() {
-            self.wanted = Some(address);
+        let Some(place) = self.sample.place_of(address) else {
+            if self.wanted.is_none() {
+                self.wanted = Some(address);
+            }
+            return Err(());
+        };
+        let known = &self.sample.known[place];
+        if known.is_readable != 0 {
+            Ok(known.word)
+        } else {
+            Err(())
         }
-        self.sample.listed(address)
     }
 }

@@ -3,11 +3,10 @@
 ghost use Rattle.std.specs.Prelude.{◌≡◌, false, true, IfOk, IfSome, OnErr};
 ghost use Rattle.framehop_registers.specs.Callback.{read_answer};
 ghost use Rattle.framehop_unwinder.specs.Frames.{frame_of};
-ghost use Rattle.framehop_unwinder.specs.IdViews.{FindsHeld, StepsBy, has_both, modules_by};
-ghost use Rattle.framehop_unwinder.specs.Memory.{WantsFrom};
+ghost use Rattle.framehop_unwinder.specs.IdViews.{FindsHeld, StepsBy, has_both};
 ghost use Rattle.framehop_unwinder.specs.Trials.{wants_memory};
 ghost use Rattle.framehop_calls.specs.Samples.{words_of};
-ghost use Rattle.framehop_calls.specs.SampleSteps.{AsksAsSaid, CountsBy, IsAnswered, IsAskedFor, KeepsModules, SampleSteps, TakesNoMemory, outcome_in};
+ghost use Rattle.framehop_calls.specs.SampleSteps.{AnswersIn, AsksAsSaid, CountsBy, IsAskedFor, KeepsModules, SampleSteps, StepsIn, TakesNoMemory, outcome_in};
 
 use crate::sample::{AskedSample, Sample};
 use framehop_rules::{Error, FrameAddress};
@@ -47,12 +46,11 @@ fn step_by_known<A: ModuleUnwinding>(
 ) -> Result<Result<Option<u64>, Error>, StaleId>
     ensures found { FindsHeld (has_both session.old unwinder cache) result session.old session.new }
     ensures unchanged { OnErr result (regs.new ≡ regs.old) }
-    ensures step { IfOk result (λ answer. IsAnswered answer regs.old regs.new
-        (outcome_in A.meanings session.old unwinder address regs.old sample.now)) }
+    ensures step { IfOk result (λ answer.
+        AnswersIn A.meanings session.old unwinder address sample.now answer regs.old regs.new) }
     ensures caches { IfOk result (λ answer. StepsBy A.meanings answer
         (frame_of address) unwinder cache session.old session.new) }
-    ensures memory { IfOk result (λ answer. WantsFrom A.takes_memory A.asks_memory
-        (modules_by session.old unwinder) (frame_of address) (wants_memory answer)) }
+    ensures memory { IfOk result (λ answer. A.takes_memory ≡ false → wants_memory answer ≡ false) }
 {
     let mut read_stack = |at: u64| -> Result<u64, ()>
         ensures { result ≡ read_answer (words_of sample.entry.now at) }
@@ -72,12 +70,11 @@ fn step_by_asked<A: ModuleUnwinding>(
 ) -> Result<Result<Option<u64>, Error>, StaleId>
     ensures found { FindsHeld (has_both session.old unwinder cache) result session.old session.new }
     ensures unchanged { OnErr result (regs.new ≡ regs.old) }
-    ensures step { IfOk result (λ answer. IsAnswered answer regs.old regs.new
-        (outcome_in A.meanings session.old unwinder address regs.old asked.old.sample.now)) }
+    ensures step { IfOk result (λ answer.
+        AnswersIn A.meanings session.old unwinder address asked.old.sample.now answer regs.old regs.new) }
     ensures caches { IfOk result (λ answer. StepsBy A.meanings answer
         (frame_of address) unwinder cache session.old session.new) }
-    ensures memory { IfOk result (λ answer. WantsFrom A.takes_memory A.asks_memory
-        (modules_by session.old unwinder) (frame_of address) (wants_memory answer)) }
+    ensures memory { IfOk result (λ answer. A.takes_memory ≡ false → wants_memory answer ≡ false) }
 {
     let mut read_stack = |at: u64| -> Result<u64, ()>
         ensures answer { result ≡ read_answer (words_of asked.entry.now.sample.now at) }
@@ -99,8 +96,8 @@ pub(crate) fn step_if_held<A: ModuleUnwinding>(
 ) -> Result<SampleStep, StaleId>
     ensures found { FindsHeld (has_both session.old unwinder cache) result session.old session.new }
     ensures unchanged { OnErr result (regs.new ≡ regs.old) }
-    ensures step { IfOk result (λ made. SampleSteps made regs.old regs.new
-        (outcome_in A.meanings session.old unwinder address regs.old sample.now)) }
+    ensures step { IfOk result (λ made.
+        StepsIn A.meanings session.old unwinder address sample.now made regs.old regs.new) }
     ensures asks { IfOk result (λ made. AsksAsSaid made sample.now) }
     ensures caches { IfOk result
         (λ made. CountsBy A.meanings made address unwinder cache session.old session.new) }
@@ -125,8 +122,8 @@ fn step_or_need<A: ModuleUnwinding>(
 ) -> Result<SampleStep, StaleId>
     ensures found { FindsHeld (has_both session.old unwinder cache) result session.old session.new }
     ensures unchanged { OnErr result (regs.new ≡ regs.old) }
-    ensures step { IfOk result (λ made. SampleSteps made regs.old regs.new
-        (outcome_in A.meanings session.old unwinder address regs.old sample.now)) }
+    ensures step { IfOk result (λ made.
+        StepsIn A.meanings session.old unwinder address sample.now made regs.old regs.new) }
     ensures asks { IfOk result (λ made. AsksAsSaid made sample.now) }
     ensures caches { IfOk result
         (λ made. CountsBy A.meanings made address unwinder cache session.old session.new) }

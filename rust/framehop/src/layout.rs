@@ -109,12 +109,6 @@ impl Sample {
     pub(crate) fn asking(known: &[Word]) -> Sample {
         Sample { start: 0, bytes: Bytes::of(&[]), known: known.as_ptr(), known_count: known.len(), asks: 1 }
     }
-
-    /// Words from an address on, the lowest byte of each first, as long as they are borrowed. Others are asked for.
-    #[inline(always)]
-    pub(crate) fn copying(start: u64, words: &[u64]) -> Sample {
-        Sample { start, bytes: Bytes(words.as_ptr().cast(), size_of_val(words)), known: Word::ANY.as_ptr(), known_count: 0, asks: 1 }
-    }
 }
 
 /// `framehop_frame_x86_64` or `framehop_frame_aarch64`, by its registers.
