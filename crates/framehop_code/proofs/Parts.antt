@@ -1,5 +1,5 @@
 -- The part of code within a range is what its bytes at addresses are.
-use Rattle.std.proofs.Common.{◌≡◌, ◌∙◌, ◌≤◌, ◌<◌, ◌+◌, ◌-◌, ℕ, zero, suc, sym, ap, arith, List, [], ◌∷◌, length, get_or, refl, min, max, take, drop, IsTrue, Bool, true, false, if◌then◌else◌, Option, Some, None, inl, inr}
+use Rattle.std.proofs.Common.{◌≡◌, ◌∙◌, ◌≤◌, ◌<◌, ◌+◌, ◌-◌, ℕ, zero, suc, sym, ap, arith, List, [], ◌∷◌, length, get_or, refl, max, take, drop, IsTrue, Bool, true, false, if◌then◌else◌, Some, None, inl, inr}
 use Rattle.std.specs.List.{slice_get}
 use Rattle.std.proofs.lemmas.Bool.{cases_lt}
 use Rattle.std.proofs.lemmas.Grind.{common_steps}
