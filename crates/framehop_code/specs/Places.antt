@@ -32,3 +32,12 @@ within range code =
 -- Two pieces of code have the same bytes within a range: at each of its addresses the same, or both none.
 abbrev pub SameWithin : CodeRange → CodeBytes → CodeBytes → Type 0
 SameWithin range one other = (address : ℕ) → IsTrue (is_inside range address) → byte_at one address ≡ byte_at other address
+
+-- A part has the bytes of the code that are inside a range, and no other.
+abbrev pub IsPart : CodeRange → CodeBytes → CodeBytes → Type 0
+IsPart range code part = (address : ℕ) → byte_at part address ≡ (if is_inside range address then byte_at code address else None)
+
+-- Two pieces of code that have the same bytes within a range have one part there, if that has a byte at an address.
+abbrev pub HaveOnePart : CodeRange → CodeBytes → CodeBytes → ℕ → Type 0
+HaveOnePart range one other address =
+    SameWithin range one other → IsTrue (has_byte (within range one) address) → within range one ≡ within range other

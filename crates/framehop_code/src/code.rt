@@ -1,7 +1,6 @@
 //! Code at addresses.
-ghost use Rattle.std.specs.Prelude.{◌≡◌, ◌<◌, ◌≤◌, ◌+◌, ◌-◌, ◌^◌, ℕ, length, take, drop, IfSome, None, if◌then◌else◌};
-ghost use Rattle.framehop_code.specs.Ranges.{is_inside};
-ghost use Rattle.framehop_code.specs.Places.{byte_at, code_of, has_byte, place_at, within};
+ghost use Rattle.std.specs.Prelude.{◌≡◌, ◌<◌, ◌+◌, length, take, drop, IfSome};
+ghost use Rattle.framehop_code.specs.Places.{IsPart, code_of, place_at, within};
 
 use crate::range::CodeRange;
 
@@ -29,8 +28,7 @@ impl<'a> Code<'a> {
     /// The part of the code that is within a range. It begins where the range or the code does, whatever is higher.
     pub fn within(self, range: CodeRange) -> Code<'a>
         ensures part { code_of result ≡ within range (code_of self.entry) }
-        ensures bytes { (address : ℕ) → byte_at (code_of result) address
-            ≡ (if is_inside range address then byte_at (code_of self.entry) address else None) }
+        ensures bytes { IsPart range (code_of self.entry) (code_of result) }
     {
         let begin = self.begin.max(range.begin);
         let before = (begin - self.begin) as usize;

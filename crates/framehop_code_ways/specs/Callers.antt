@@ -1,6 +1,6 @@
 -- The rule of a frame by a way from the place of its address. What a way's rule is, and where it leads, is an architecture's.
-use Rattle.std.specs.Prelude.{ℕ, ◌-◌, if◌then◌else◌, List, Option, None, option_and_then}
-use Rattle.framehop_code.specs.Places.{CodeBytes, place_at, within}
+use Rattle.std.specs.Prelude.{ℕ, ◌≡◌, ◌-◌, if◌then◌else◌, List, Option, None, option_and_then}
+use Rattle.framehop_code.specs.Places.{CodeBytes, SameWithin, place_at, within}
 use Rattle.framehop_code.specs.Ranges.{is_inside}
 use Rattle.framehop_code.specs.declared.range.CodeRange.{CodeRange}
 use Rattle.framehop_code_ways.specs.declared.way.BranchesOut.{BranchesOut}
@@ -28,6 +28,11 @@ rule_in_text first_rule range code address = rule_from first_rule TailCalls rang
 -- Branches are followed within the bounds alone, and where one out of them leads isn't known.
 abbrev pub rule_by_way : {Rule : Type 0} → FirstRule Rule → CodeRange → CodeBytes → ℕ → Option Rule
 rule_by_way first_rule range code address = rule_from first_rule Unknown range (within range code) address
+
+-- The rule is the same for any other code that has the same bytes within the bounds.
+abbrev pub IsAlike : {Rule : Type 0} → FirstRule Rule → CodeRange → CodeBytes → ℕ → Option Rule → Type 0
+IsAlike first_rule range code address rule =
+    (other : CodeBytes) → SameWithin range code other → rule_by_way first_rule range other address ≡ rule
 
 -- A way from the place of an address leads to where the rule says.
 abbrev pub LeadsFrom : {Rule : Type 0} → (List ℕ → Bounds → ℕ → Rule → Type 0) → CodeRange → CodeBytes → ℕ → Rule → Type 0

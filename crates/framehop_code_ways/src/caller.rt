@@ -1,7 +1,7 @@
 //! The rule of a frame by a way out of its function.
 ghost use Rattle.std.specs.Prelude.{◌≡◌, IfSome};
-ghost use Rattle.framehop_code.specs.Places.{CodeBytes, SameWithin, code_of, within};
-ghost use Rattle.framehop_code_ways.specs.Callers.{LeadsFrom, places_in, rule_by_way, rule_from, rule_in_text};
+ghost use Rattle.framehop_code.specs.Places.{code_of, within};
+ghost use Rattle.framehop_code_ways.specs.Callers.{IsAlike, LeadsFrom, places_in, rule_by_way, rule_from, rule_in_text};
 
 use crate::way::{BranchesOut, WayUnwinding};
 use framehop_code::{Code, CodeRange, parts_are_same};
@@ -62,8 +62,7 @@ pub fn caller_by_way<A: WayUnwinding>(
 ) -> Option<A::UnwindRule>
     ensures rule { result ≡ rule_by_way A.first_rule bounds (code_of code.entry) address }
     ensures leads { IfSome result (LeadsFrom A.leads bounds (within bounds (code_of code.entry)) address) }
-    ensures alike { (other : CodeBytes) → SameWithin bounds (code_of code.entry) other
-        → rule_by_way A.first_rule bounds other address ≡ result }
+    ensures alike { IsAlike A.first_rule bounds (code_of code.entry) address result }
     ensures valid { IfSome result A.UnwindRule.is_valid }
 {
     parts_are_same();
