@@ -1,6 +1,6 @@
 -- A row that an unwind rule says has one caller, by the rule and as a whole row, on x86_64.
-use Rattle.std.proofs.Common.{◌≡◌, ℕ, refl, sym, ap, ◌∙◌, Option, Some, None, Result, Ok, Err, Bool, true, false, List, arith}
-use Rattle.std.specs.Prelude.{ℤ, pos, negsuc, option_and_then, option_map, unwrap_or, ◌==◌, ◌&&◌, if◌then◌else◌}
+use Rattle.std.proofs.Common.{◌≡◌, ℕ, refl, sym, ap, ◌∙◌, Option, Some, None, Ok, Bool, true, false, arith}
+use Rattle.std.specs.Prelude.{ℤ, pos, negsuc, option_and_then, option_map, unwrap_or, ◌==◌}
 use Rattle.std.specs.FinMap.{get}
 use Rattle.std.specs.Option.{ok_or}
 use Rattle.std.specs.Ordering.{int_eq}
@@ -13,9 +13,9 @@ use Rattle.dwarf_frame_rows.specs.declared.rules.RegisterRule.TheVariants as rul
 use Rattle.dwarf_frame_parts.specs.RowParts.{parts_of}
 use Rattle.dwarf_frame_parts.specs.declared.parts.Parts.{Parts}
 use Rattle.framehop_registers.specs.Callback.{Words}
-use Rattle.framehop_registers.specs.Registers.{ip_of, sp_of, bp_of}
+use Rattle.framehop_registers.specs.Registers.{ip_of, bp_of}
 use Rattle.framehop_registers.specs.declared.x86_64.unwindregs.UnwindRegsX86_64.{UnwindRegsX86_64}
-use Rattle.framehop_rules.specs.Outcome.{Outcome, Ends, Answers, Caller}
+use Rattle.framehop_rules.specs.Outcome.{Ends, Answers, Caller}
 use Rattle.framehop_rules.specs.RuleMeaning.{caller_registers, rule_meaning}
 use Rattle.framehop_rules.specs.declared.x86_64.unwind_rule.UnwindRuleX86_64.{UnwindRuleX86_64}
 use Rattle.framehop_rules.specs.declared.x86_64.unwind_rule.UnwindRuleX86_64.TheVariants.{EndOfStack}
@@ -24,11 +24,10 @@ use Rattle.framehop_rows.specs.RowAnswer.{register_value as carried_value, calle
 use Rattle.framehop_rows.specs.RowSources.{plus, whole_sources}
 use Rattle.framehop_rows.specs.ScaledRow.{RBP, RA, from_bp, from_cfa, from_register, from_return_address, is_at, scaled_rule}
 use Rattle.framehop_expressions.specs.Architectures.{sign_state}
-use Rattle.framehop_expressions.specs.declared.unknown.Unknown.{Unknown}
 use Rattle.framehop_expressions.specs.declared.unknown.Unknown.TheVariants as unknown
 use Rattle.framehop_expressions.specs.Evaluation.{word_value}
 use Rattle.framehop_whole_rows.specs.Callers.{WholeCaller, caller_by, caller_of, code_address, given, if_known, is_signed, register_after, returned_at, returned_by}
-use Rattle.framehop_whole_rows.specs.Laws.{AgreesWith, HasCallerAs, IsFrameOf}
+use Rattle.framehop_whole_rows.specs.Laws.{HasCallerAs, IsFrameOf}
 use Rattle.framehop_whole_rows.specs.Rules.{RowFrame, cfa_value, given_by, known_then, return_by}
 use Rattle.framehop_whole_rows.specs.declared.caller.Returned.{Returned}
 

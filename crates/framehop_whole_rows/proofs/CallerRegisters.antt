@@ -1,6 +1,6 @@
 -- The registers of a caller, one after the other.
-use Rattle.std.proofs.Common.{◌≡◌, ◌≢◌, ℕ, ◌<◌, Option, None, Ok, Some, arith, refl, sym, ap, ◌∙◌}
-use Rattle.std.specs.Prelude.{nat_lt, if◌then◌else◌}
+use Rattle.std.proofs.Common.{◌≡◌, ℕ, ◌<◌, None, Ok, Some, arith, refl, sym, ap, ◌∙◌}
+use Rattle.std.specs.Prelude.{nat_lt}
 use Rattle.list_laws.proofs.Laws.{by_case}
 use Rattle.dwarf_frame_instructions.specs.StateViews.{rule_as}
 use Rattle.dwarf_frame_rows.specs.declared.rules.RegisterRule.{RegisterRule}
@@ -10,7 +10,6 @@ use Rattle.framehop_expressions.specs.Registers.{known}
 use Rattle.framehop_expressions.specs.declared.registers.KnownRegisters.{KnownRegisters}
 use Rattle.framehop_whole_rows.specs.Callers.{AreRegisters, IsResult, WholeCaller, caller_by, caller_register, register_after, returned}
 use Rattle.framehop_whole_rows.specs.Rules.{RowFrame, ruled_return, stated_return}
-use Rattle.framehop_whole_rows.specs.declared.caller.KnownCaller.{KnownCaller}
 use Rattle.framehop_whole_rows.specs.declared.caller.Returned.{Returned}
 
 -- once each register that the architecture has is known, all are

@@ -9,7 +9,6 @@ use Rattle.framehop_registers.specs.declared.aarch64.unwindregs.PtrAuthMask.{Ptr
 use Rattle.framehop_expressions.specs.Architectures.{instruction_pointer, register_count, sign_state}
 use Rattle.framehop_expressions.specs.MachineViews.{frame_of}
 use Rattle.framehop_expressions.specs.Registers.{known}
-use Rattle.framehop_expressions.specs.declared.architecture.Architecture.{Architecture}
 use Rattle.framehop_expressions.specs.declared.registers.KnownRegisters.{KnownRegisters}
 use Rattle.framehop_expressions.specs.declared.unknown.Unknown.{Unknown}
 use Rattle.framehop_whole_rows.specs.Rules.{RowFrame, cfa_value, given_by, return_by}

@@ -1,5 +1,5 @@
 -- What whole rows have to do with the unwind rules that say rows, on x86_64.
-use Rattle.std.specs.Prelude.{◌≡◌, ℕ, Bool, Option, Some, None, Ok}
+use Rattle.std.specs.Prelude.{◌≡◌, ℕ, Bool, Some, None, Ok}
 use Rattle.std.specs.FinMap.{get}
 use Rattle.framehop_registers.specs.Registers.{ip_of, sp_of, bp_of}
 use Rattle.framehop_registers.specs.declared.x86_64.unwindregs.UnwindRegsX86_64.{UnwindRegsX86_64}

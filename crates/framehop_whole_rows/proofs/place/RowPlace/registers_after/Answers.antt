@@ -1,8 +1,6 @@
-use Rattle.std.proofs.Common.{◌≡◌, ◌≢◌, ◌<◌, ◌∙◌, arith, ap, sym, below_more}
-use Rattle.framehop_registers.proofs.Laws.{over_both, over_none, over_weaker}
+use Rattle.std.proofs.Common.{◌≢◌, ◌<◌, ◌∙◌, arith, below_more}
+use Rattle.framehop_registers.proofs.Laws.{over_both}
 use Rattle.framehop_expressions.specs.Architectures.{register_count}
-use Rattle.framehop_whole_rows.specs.Callers.{row_frame}
-use Rattle.framehop_whole_rows.proofs.CallerRegisters.{all-known}
 use Rattle.framehop_whole_rows.proofs.place.RowPlace.registers_after.Goals as goal
 
 pub loop-number-preserved : goal.loop-number-preserved
