@@ -1,7 +1,7 @@
 //! How many samples have each stack.
 
 ghost use Rattle.std.specs.Prelude.{◌≡◌, [], IfOk, OnErr, OnOk, map};
-ghost use Rattle.folded_stacks.specs.LineViews.{entry_seen, line_seen};
+ghost use Rattle.folded_stacks.specs.LineViews.{CountsMore, entry_seen, line_seen};
 ghost use Rattle.folded_stacks.specs.Lines.{all_counted, more_than, named, stack_text, with_samples};
 
 use crate::frame_names::FrameNames;
@@ -68,8 +68,7 @@ fn add_text(
     stack: &[u32],
     samples: u64,
 ) -> Result<(), AllocError>
-    ensures { OnOk result (map entry_seen lines.new.entries
-        ≡ with_samples (stack_text names.now stack.now) samples (map entry_seen lines.old.entries)) }
+    ensures { OnOk result (CountsMore (stack_text names.now stack.now) samples lines.old.entries lines.new.entries) }
 {
     let known = lines.insert(text_of(alloc, names, stack)?, samples)?;
     if known.is_some() {
