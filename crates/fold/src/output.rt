@@ -10,17 +10,24 @@ use fold_options::{FoldOptions, Weights};
 use fold_stacks::FoldTotals;
 use folded_stacks::{FoldedLine, push_line};
 use std::alloc::{AllocError, Global};
-use std::io::{BufWriter, Write};
+use std::io::Write;
 use std::{fs, io};
+
+// How much is written at once.
+const BLOCK: usize = 1 << 16;
 
 /// Writes lines to standard output.
 pub(crate) fn write_lines(rt: &HostRuntime, lines: &[FoldedLine]) -> Result<()> {
-    let mut out = BufWriter::new(rt.alloc(), io::writer(rt))?;
+    let mut out = io::writer(rt);
+    let mut text = Vec::new(rt.alloc());
     for line in lines {
-        let mut text = Vec::new(rt.alloc());
         push_line(rt.alloc(), &mut text, line)?;
-        out.write_all(text.as_slice())?;
+        if text.len() >= BLOCK {
+            out.write_all(text.as_slice())?;
+            text.clear();
+        }
     }
+    out.write_all(text.as_slice())?;
     out.flush()?;
     Ok(())
 }

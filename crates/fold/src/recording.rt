@@ -5,6 +5,7 @@ ghost use Rattle.std.specs.List.Sorted.{IsNonDecreasingBy};
 
 use crate::event_names::event_names;
 use crate::source::Source;
+use dwarf_endianity::{Endianity, LittleEndian};
 use perf_files::{
     Architecture, AttributeEntry, Attributes, Event, EventError, FeatureError, FieldError,
     FileBuildId, FileHeader, HeaderError, PerfHeader, Record, RecordError, RecordKind, RecordPlace,
@@ -105,11 +106,14 @@ pub(crate) struct Recording {
     pub(crate) cut: Option<Option<RecordError>>,
 }
 
-// The greatest size of a record.
-const MOST_BYTES: u64 = 1 << 16;
+// How much is read at once where a record begins: the first fields of a sample, or some of the smaller records.
+const AHEAD: u64 = 1 << 9;
 
-// How much is read at once.
-const BLOCK: u64 = 1 << 20;
+// The most that the header and the first fields of a sample take, which say of which event it is and when it was taken.
+const SAMPLE_HEAD: u64 = 80;
+
+// The number of samples among kinds of records.
+const SAMPLE: u32 = 9;
 
 const PIPE_HEADER_SIZE: u64 = 16;
 
@@ -152,6 +156,27 @@ fn is_taken(kind: RecordKind) -> bool {
             | RecordKind::LostSamples
             | RecordKind::Sample
     )
+}
+
+// The sample that some bytes begin with, by its first fields, and its size; none if they begin otherwise, or if the sample ends behind so
+// many.
+fn sample_head(bytes: &[u8], offset: u64, left: u64) -> Option<(Record<'_>, u64)> {
+    if bytes.len() < 8 || LittleEndian.read_u32(bytes) != SAMPLE {
+        return None;
+    }
+    let size = LittleEndian.read_u16(&bytes[6..]);
+    if size < 8 || u64::from(size) > left {
+        return None;
+    }
+    let known = bytes.len().min(usize::from(size));
+    let head = &bytes[..known];
+    let record = Record {
+        offset,
+        kind: RecordKind::Sample,
+        misc: LittleEndian.read_u16(&bytes[4..]),
+        payload: &head[8..],
+    };
+    Some((record, u64::from(size)))
 }
 
 impl Recording {
@@ -332,6 +357,49 @@ impl Recording {
         }
     }
 
+    // Takes the sample at an offset, by its first fields, if there is one that so many bytes have, and returns its size.
+    fn take_sample(
+        &mut self,
+        source: &mut Source,
+        offset: u64,
+        left: u64,
+    ) -> Result<Option<u64>, ReadError> {
+        let bytes = source.bytes(offset, left.min(SAMPLE_HEAD), AHEAD)?;
+        let Some((record, size)) = sample_head(bytes, offset, left) else {
+            return Ok(None);
+        };
+        self.take_place(&record)?;
+        Ok(Some(size))
+    }
+
+    // Takes the record at an offset, of which so many bytes are left, and returns where the next one begins; none if there isn't one.
+    fn take_next(
+        &mut self,
+        alloc: Global,
+        source: &mut Source,
+        offset: u64,
+        left: u64,
+    ) -> Result<Option<u64>, ReadError> {
+        if let Some(size) = self.take_sample(source, offset, left)? {
+            return Ok(Some(offset.saturating_add(size)));
+        }
+        let bytes = source.record_bytes(offset, AHEAD)?;
+        let known = left.min(bytes.len() as u64) as usize;
+        match record_at(&bytes[..known], offset) {
+            Ok(Some((record, size))) => {
+                self.take_record(alloc, &record)?;
+                return Ok(Some(offset.saturating_add(size)));
+            }
+            Ok(None) => {
+                if left > 0 {
+                    self.cut = Some(None);
+                }
+            }
+            Err(error) => self.cut = Some(Some(error)),
+        }
+        Ok(None)
+    }
+
     // Takes all records.
     fn take_records(
         &mut self,
@@ -343,22 +411,9 @@ impl Recording {
         let mut offset = data.offset;
         for _ in 0..data.size {
             let left = end.saturating_sub(offset);
-            let bytes = source.bytes(offset, left.min(MOST_BYTES), BLOCK)?;
-            match record_at(bytes, offset) {
-                Ok(Some((record, size))) => {
-                    self.take_record(alloc, &record)?;
-                    offset = offset.saturating_add(size);
-                }
-                Ok(None) => {
-                    if left > 0 {
-                        self.cut = Some(None);
-                    }
-                    break;
-                }
-                Err(error) => {
-                    self.cut = Some(Some(error));
-                    break;
-                }
+            match self.take_next(alloc, source, offset, left)? {
+                Some(next) => offset = next,
+                None => break,
             }
         }
         Ok(())

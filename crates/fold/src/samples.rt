@@ -5,7 +5,6 @@ use crate::output::{write_lines, write_picture, write_summary};
 use crate::recording::Recording;
 use crate::source::Source;
 use anyhow::{Result, bail};
-use dwarf_endianity::{Endianity, LittleEndian};
 use fold_options::FoldOptions;
 use fold_stacks::{FoldError, Folding, RecordedEvents};
 use perf_files::record_at;
@@ -13,22 +12,6 @@ use sample_stacks::SampleArch;
 
 // How much is read at once if a record isn't in memory: most records with copied stacks are smaller.
 const AHEAD: u64 = 1 << 14;
-
-// The greatest size of a record, and the size of its header.
-const MOST_BYTES: u64 = 1 << 16;
-
-const HEADER_SIZE: u64 = 8;
-
-// The bytes of a record.
-fn record_bytes(source: &mut Source, offset: u64) -> Result<&[u8]> {
-    let header = source.bytes(offset, HEADER_SIZE, AHEAD)?;
-    let size = if header.len() < HEADER_SIZE as usize {
-        MOST_BYTES
-    } else {
-        u64::from(LittleEndian.read_u16(&header[6..]))
-    };
-    Ok(source.bytes(offset, size, AHEAD)?)
-}
 
 // Takes all records, and returns how many can't be read.
 fn take_all<A: SampleArch>(
@@ -45,7 +28,7 @@ fn take_all<A: SampleArch>(
     };
     let mut unreadable = recording.unreadable;
     for place in &recording.places {
-        let bytes = record_bytes(source, place.offset)?;
+        let bytes = source.record_bytes(place.offset, AHEAD)?;
         let Ok(Some((record, _))) = record_at(bytes, place.offset) else {
             unreadable = unreadable.saturating_add(1);
             continue;

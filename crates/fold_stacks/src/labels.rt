@@ -5,6 +5,7 @@ ghost use Rattle.std.specs.Prelude.{◌≡◌, []};
 use crate::files::SampledFiles;
 use crate::frames::UserFrame;
 use crate::names::{UNKNOWN, push_function, push_unknown_in};
+use crate::recent::{PlaceKey, RecentNumbers};
 use elf_files::ElfFile;
 use folded_stacks::{FrameNames, push_address, push_kernel_name};
 use function_index::FunctionIndex;
@@ -15,28 +16,23 @@ use std::alloc::{AllocError, Global};
 use std::collections::HashMap;
 use std::marker::Model;
 
-// A place in a file, as a key.
-#[derive(Clone, Copy, Debug, PartialEq, Eq, Hash)]
-struct PlaceKey {
-    file: u32,
-    address: u64,
-}
-
 /// The names of frames, and the functions of files.
 #[derive(Drop)]
 pub(crate) struct Labels {
     // The names.
     names: FrameNames,
-    // The numbers of names that were looked up.
+    // The numbers of names that were looked up, and those of the last ones.
     known: HashMap<PlaceKey, u32>,
+    recent: RecentNumbers,
     // The numbers of the names of functions, by their symbols: a function is at many places.
     symbols: HashMap<Vec<u8>, u32>,
     // The functions of files that were read, by the file's number.
     functions: HashMap<u32, FunctionIndex<'static>>,
     // The functions of the kernel, once a frame was there.
     kernel: Option<KernelSymbols<'static>>,
-    // The numbers of the names of the kernel's frames that were looked up, by their addresses.
+    // The numbers of the names of the kernel's frames that were looked up, by their addresses, and those of the last ones.
     known_kernel: HashMap<u64, u32>,
+    recent_kernel: RecentNumbers,
 }
 
 /// A clause sees the names.
@@ -82,10 +78,12 @@ impl Labels {
         Labels {
             names: FrameNames::new(alloc),
             known: HashMap::new(alloc),
+            recent: RecentNumbers::new(alloc),
             symbols: HashMap::new(alloc),
             functions: HashMap::new(alloc),
             kernel: None,
             known_kernel: HashMap::new(alloc),
+            recent_kernel: RecentNumbers::new(alloc),
         }
     }
 
@@ -142,6 +140,22 @@ impl Labels {
         }
     }
 
+    // The number of the name of the function at a place that isn't among the last ones.
+    fn number_of_older<F: SampledFiles>(
+        &mut self,
+        alloc: Global,
+        files: &mut F,
+        place: CodePlace,
+        key: PlaceKey,
+    ) -> Result<u32, AllocError> {
+        if let Some(number) = self.known.get(&key).copied() {
+            return Ok(number);
+        }
+        let number = self.number_at::<F>(alloc, files, place)?;
+        self.known.insert(key, number)?;
+        Ok(number)
+    }
+
     // The number of the name of the function at a place.
     fn number_of_place<F: SampledFiles>(
         &mut self,
@@ -153,11 +167,11 @@ impl Labels {
             file: place.file,
             address: place.address,
         };
-        if let Some(number) = self.known.get(&key).copied() {
+        if let Some(number) = self.recent.get(key) {
             return Ok(number);
         }
-        let number = self.number_at::<F>(alloc, files, place)?;
-        self.known.insert(key, number)?;
+        let number = self.number_of_older::<F>(alloc, files, place, key)?;
+        self.recent.keep(key, number)?;
         Ok(number)
     }
 
@@ -221,8 +235,8 @@ impl Labels {
         self.number_of(text.as_slice())
     }
 
-    /// The number of the name of a frame of the kernel.
-    pub(crate) fn number_of_kernel<F: SampledFiles>(
+    // The number of the name of a frame of the kernel that isn't among the last ones.
+    fn number_of_older_kernel<F: SampledFiles>(
         &mut self,
         alloc: Global,
         files: &mut F,
@@ -233,6 +247,22 @@ impl Labels {
         }
         let number = self.kernel_number::<F>(alloc, files, address)?;
         self.known_kernel.insert(address, number)?;
+        Ok(number)
+    }
+
+    /// The number of the name of a frame of the kernel.
+    pub(crate) fn number_of_kernel<F: SampledFiles>(
+        &mut self,
+        alloc: Global,
+        files: &mut F,
+        address: u64,
+    ) -> Result<u32, AllocError> {
+        let key = PlaceKey { file: 0, address };
+        if let Some(number) = self.recent_kernel.get(key) {
+            return Ok(number);
+        }
+        let number = self.number_of_older_kernel::<F>(alloc, files, address)?;
+        self.recent_kernel.keep(key, number)?;
         Ok(number)
     }
 

@@ -14,6 +14,7 @@ mod names;
 mod numbers;
 mod order;
 mod processes;
+mod recent;
 mod samples;
 mod selection;
 mod taken;

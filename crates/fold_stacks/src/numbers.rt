@@ -102,12 +102,12 @@ impl Labels {
         files: &mut F,
         sample: &Sample<'_>,
     ) -> Result<Vec<u32>, AllocError> {
-        let mut numbers = Vec::new(alloc);
         if options.no_kernel {
-            return Ok(numbers);
+            return Ok(Vec::new(alloc));
         }
-        let mut addresses = Vec::new(alloc);
+        let mut addresses = Vec::with_capacity(alloc, sample.call_chain.len())?;
         push_kernel_frames(alloc, &mut addresses, &sample.call_chain)?;
+        let mut numbers = Vec::with_capacity(alloc, addresses.len())?;
         for address in &addresses {
             let number = self.kernel_frame_number::<F>(alloc, files, options.addresses, *address)?;
             numbers.push(number)?;

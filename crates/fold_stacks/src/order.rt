@@ -46,7 +46,8 @@ pub fn folded_stack(
 ) -> Result<Vec<u32>, AllocError>
     ensures { IfOk result (λ stack. stack.items ≡ stack_numbers parts.now inverted) }
 {
-    let mut stack = Vec::new(alloc);
+    let frames = parts.kernel.len().saturating_add(parts.user.len());
+    let mut stack = Vec::with_capacity(alloc, frames.saturating_add(2))?;
     push_innermost_first(&mut stack, parts)?;
     if inverted {
         stack.reverse();

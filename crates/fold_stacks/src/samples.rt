@@ -20,6 +20,9 @@ use sample_stacks::{SampleArch, WalkEnd};
 use std::alloc::{AllocError, Global};
 use std::marker::Model;
 
+// The frames for which there is room from the start: most walks have fewer.
+const USUAL_FRAMES: usize = 64;
+
 /// The stacks of the samples so far.
 #[derive(Drop)]
 pub(crate) struct SampleStacks<A: SampleArch> {
@@ -78,7 +81,7 @@ impl<A: SampleArch> SampleStacks<A> {
     ) -> Result<(Vec<UserFrame>, WalkEnd), AllocError>
         ensures { self.new ≡ self.old }
     {
-        let mut addresses = Vec::new(alloc);
+        let mut addresses = Vec::with_capacity(alloc, USUAL_FRAMES)?;
         let modules = self
             .modules
             .modules_of::<A>(alloc, &mut self.walker, processes, pid)?;

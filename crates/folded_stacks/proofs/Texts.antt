@@ -12,7 +12,7 @@ use Rattle.std.specs.declared.cmp.Ordering.{Ordering}
 use Rattle.std.specs.declared.cmp.Ordering.TheVariants.{Less, Equal, Greater}
 use Rattle.folded_stacks.specs.CountLaws.{TextsAreCounted, as_text}
 use Rattle.folded_stacks.specs.Lines.{Line, all_counted, count_of, counted, more_than, with_line}
-use Rattle.folded_stacks.proofs.Order.{all-kept, behind, kept, lines-are-in-order, none, stacks}
+use Rattle.folded_stacks.proofs.Order.{behind, kept, lines-are-in-order, none, stacks}
 use Rattle.folded_stacks.proofs.Sums.{put}
 
 -- ---- what is counted of a stack, sample by sample

@@ -1,11 +1,11 @@
 //! How many samples have each stack.
 
 ghost use Rattle.std.specs.Prelude.{◌≡◌, [], IfOk, OnErr, OnOk, map};
-ghost use Rattle.folded_stacks.specs.LineViews.{entry_seen, line_seen};
-ghost use Rattle.folded_stacks.specs.Lines.{all_counted, more_than, named, with_samples};
+ghost use Rattle.folded_stacks.specs.LineViews.{CountsText, entry_seen, line_seen};
+ghost use Rattle.folded_stacks.specs.Lines.{all_counted, more_than, named, stack_text, with_samples};
 
 use crate::frame_names::FrameNames;
-use crate::lines::{FoldedLine, push_stack};
+use crate::lines::{FoldedLine, text_of};
 use std::alloc::{AllocError, Global};
 use std::collections::BTreeMap;
 use std::marker::Model;
@@ -60,17 +60,22 @@ impl StackCounts {
     }
 }
 
-// Counts samples of a stack by its text.
+// Counts samples of a stack by its text. A text that is there already is rare: so it is made again then, and not looked up before.
 fn add_text(
+    alloc: Global,
     lines: &mut BTreeMap<Vec<u8>, u64>,
-    stack: Vec<u8>,
+    names: &FrameNames,
+    stack: &[u32],
     samples: u64,
 ) -> Result<(), AllocError>
-    ensures { OnOk result (map entry_seen lines.new.entries
-        ≡ with_samples stack.items samples (map entry_seen lines.old.entries)) }
+    ensures { OnOk result (CountsText (stack_text names.now stack.now) samples
+        lines.old.entries lines.new.entries) }
 {
-    let count = more_than(lines.get(stack.as_slice()).copied(), samples);
-    lines.insert(stack, count)?;
+    let known = lines.insert(text_of(alloc, names, stack)?, samples)?;
+    if known.is_some() {
+        let count = more_than(known, samples);
+        lines.insert(text_of(alloc, names, stack)?, count)?;
+    }
     Ok(())
 }
 
@@ -85,23 +90,18 @@ fn counts_by_text(
 {
     let mut lines = BTreeMap::new(alloc);
     for (stack, count) in &counts.counts {
-        let mut text = Vec::new(alloc);
-        push_stack(&mut text, names, stack.as_slice())?;
-        add_text(&mut lines, text, *count)?;
+        add_text(alloc, &mut lines, names, stack.as_slice(), *count)?;
     }
     Ok(lines)
 }
 
 // Lines, in their order.
-fn lines_in(alloc: Global, counts: &BTreeMap<Vec<u8>, u64>) -> Result<Vec<FoldedLine>, AllocError>
-    ensures { IfOk result (λ lines. map line_seen lines.items ≡ map entry_seen counts.now.entries) }
+fn lines_in(alloc: Global, counts: BTreeMap<Vec<u8>, u64>) -> Result<Vec<FoldedLine>, AllocError>
+    ensures { IfOk result (λ lines. map line_seen lines.items ≡ map entry_seen counts.entries) }
 {
-    let mut lines = Vec::new(alloc);
+    let mut lines = Vec::with_capacity(alloc, counts.len())?;
     for (stack, count) in counts {
-        lines.push(FoldedLine {
-            stack: stack.as_slice().to_vec(alloc)?,
-            count: *count,
-        })?;
+        lines.push(FoldedLine { stack, count })?;
     }
     Ok(lines)
 }
@@ -115,5 +115,5 @@ pub fn lines_of(
     ensures { IfOk result (λ lines. map line_seen lines.items ≡ all_counted (map (named names.now) counts.now) []) }
 {
     let counted = counts_by_text(alloc, names, counts)?;
-    lines_in(alloc, &counted)
+    lines_in(alloc, counted)
 }

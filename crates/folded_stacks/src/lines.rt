@@ -1,6 +1,6 @@
 //! The lines of folded stacks.
 
-ghost use Rattle.std.specs.Prelude.{true};
+ghost use Rattle.std.specs.Prelude.{◌≡◌, IfOk, true};
 ghost use Rattle.line_parts.specs.Parts.{Pushes};
 ghost use Rattle.folded_stacks.specs.Lines.{line_text, names_text, stack_text};
 ghost use Rattle.folded_stacks.specs.LineViews.{line_seen};
@@ -33,17 +33,30 @@ fn push_names(text: &mut Vec<u8>, names: &FrameNames, numbers: &[u32]) -> Result
     Ok(())
 }
 
-/// Appends the names of a stack by their numbers, of which the innermost frame's is the first, with semicolons between them.
-pub(crate) fn push_stack(
-    text: &mut Vec<u8>,
+// How many bytes names take, each with a semicolon.
+fn size_of_names(names: &FrameNames, numbers: &[u32]) -> usize {
+    let mut size: usize = 0;
+    for number in numbers {
+        size = size
+            .saturating_add(names.text_of(*number).len())
+            .saturating_add(1);
+    }
+    size
+}
+
+/// The names of a stack by their numbers, of which the innermost frame's is the first, with semicolons between them.
+pub(crate) fn text_of(
+    alloc: Global,
     names: &FrameNames,
     stack: &[u32],
-) -> Result<(), AllocError>
-    ensures { Pushes result text.old text.new (stack_text names.now stack.now) }
+) -> Result<Vec<u8>, AllocError>
+    ensures { IfOk result (λ text. text.items ≡ stack_text names.now stack.now) }
 {
-    let mut numbers = stack.to_vec(*text.allocator())?;
+    let mut numbers = stack.to_vec(alloc)?;
     numbers.reverse();
-    push_names(text, names, numbers.as_slice())
+    let mut text = Vec::with_capacity(alloc, size_of_names(names, stack))?;
+    push_names(&mut text, names, numbers.as_slice())?;
+    Ok(text)
 }
 
 /// Appends a line.

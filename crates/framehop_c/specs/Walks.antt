@@ -2,7 +2,7 @@
 use Rattle.std.specs.Prelude.{ℕ, ◌≡◌, List, [], ◌∷◌, Bool, true, false, Option, Some, None, option_map}
 use Rattle.framehop_registers.specs.declared.aarch64.unwindregs.UnwindRegsAarch64.{UnwindRegsAarch64}
 use Rattle.framehop_registers.specs.declared.x86_64.unwindregs.UnwindRegsX86_64.{UnwindRegsX86_64}
-use Rattle.framehop_samples.specs.declared.sample.Sample.{Sample}
+use Rattle.framehop_calls.specs.declared.sample.Sample.{Sample}
 use Rattle.framehop.specs.StepMeanings.{meanings_aarch64, meanings_x86_64}
 use Rattle.framehop_loads.specs.StepLimits.{limits_may_allocate}
 use Rattle.framehop_calls.specs.Places.{position_numbered}

@@ -9,8 +9,7 @@ use crate::session::AnySession;
 use framehop::aarch64::UnwindRegsAarch64;
 use framehop::x86_64::UnwindRegsX86_64;
 use framehop_calls::status::{BAD_ARGUMENT, NO_VALUE, OK, OTHER_ARCHITECTURE};
-use framehop_calls::{RegistersAarch64, RegistersX86_64, SampleStepCall, frame_at};
-use framehop_samples::Sample;
+use framehop_calls::{RegistersAarch64, RegistersX86_64, Sample, SampleStepCall, frame_at};
 use std::alloc::Global;
 
 /// A frame on x86_64 that a step is made from, and what the step gives.

@@ -9,8 +9,9 @@ use crate::session::AnySession;
 use framehop::aarch64::UnwindRegsAarch64;
 use framehop::x86_64::UnwindRegsX86_64;
 use framehop_calls::status::{BAD_ARGUMENT, NO_CACHE, NO_UNWINDER, NO_VALUE, OTHER_ARCHITECTURE};
-use framehop_calls::{RegistersAarch64, RegistersX86_64, SampleWalkCall, numbers_of, place_at};
-use framehop_samples::{Sample, SampleWalk};
+use framehop_calls::{
+    RegistersAarch64, RegistersX86_64, Sample, SampleWalk, SampleWalkCall, numbers_of, place_at,
+};
 use std::alloc::Global;
 
 // Whether a status says that there is no such unwinder or cache.

@@ -1,1 +1,5 @@
+pub mod Calls
+pub mod Moves
+pub mod Passing
 pub mod RegisterLists
+pub mod StillCallback

@@ -1,6 +1,6 @@
 -- Calls for steps and walks as their contracts see them.
 use Rattle.framehop_unwinder.specs.Frames.{frame_of}
-use Rattle.framehop_samples.specs.Walks.{walk_of}
+use Rattle.framehop_calls.specs.SampleWalks.{walk_of}
 use Rattle.framehop_calls.specs.Steps.{StepCall, WalkCall}
 use Rattle.framehop_calls.specs.declared.steps.SampleStepCall.{SampleStepCall}
 use Rattle.framehop_calls.specs.declared.walks.SampleWalkCall.{SampleWalkCall}

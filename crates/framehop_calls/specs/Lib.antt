@@ -2,6 +2,9 @@ pub mod Calls
 pub mod CallViews
 pub mod Places
 pub mod Registers
+pub mod Samples
+pub mod SampleSteps
+pub mod SampleWalks
 pub mod Sections
 pub mod Statuses
 pub mod Steps

@@ -8,15 +8,15 @@ use Rattle.framehop_unwinder.specs.Frames.{Frame}
 use Rattle.framehop_unwinder.specs.Judge.{judge}
 use Rattle.framehop_unwinder.specs.State.{SessionState, modules_at}
 use Rattle.framehop_unwinder.specs.Walk.{Walk}
-use Rattle.framehop_samples.specs.Samples.{words_of}
-use Rattle.framehop_samples.specs.Steps.{AsksAsSaid, CountsAsStep, KeepsModules, SampleSteps}
-use Rattle.framehop_samples.specs.Walks.{NeedsUnknown, Through, WalkIn, WalksOver, WritesFrames}
-use Rattle.framehop_samples.specs.declared.sample.Sample.{Sample}
-use Rattle.framehop_samples.specs.declared.steps.SampleStep.{SampleStep}
-use Rattle.framehop_samples.specs.declared.steps.SampleStep.TheVariants.{Answered, NeedsWord}
-use Rattle.framehop_samples.specs.declared.walks.WalkEnd.{WalkEnd}
-use Rattle.framehop_samples.specs.declared.walks.WalkEnd.TheVariants as ending
-use Rattle.framehop_samples.specs.declared.walks.Walked.{Walked}
+use Rattle.framehop_calls.specs.Samples.{words_of}
+use Rattle.framehop_calls.specs.SampleSteps.{AsksAsSaid, CountsAsStep, KeepsModules, SampleSteps}
+use Rattle.framehop_calls.specs.SampleWalks.{NeedsUnknown, Through, WalkIn, WalksOver, WritesFrames}
+use Rattle.framehop_calls.specs.declared.sample.Sample.{Sample}
+use Rattle.framehop_calls.specs.declared.sample_steps.SampleStep.{SampleStep}
+use Rattle.framehop_calls.specs.declared.sample_steps.SampleStep.TheVariants.{Answered, NeedsWord}
+use Rattle.framehop_calls.specs.declared.sample_walks.WalkEnd.{WalkEnd}
+use Rattle.framehop_calls.specs.declared.sample_walks.WalkEnd.TheVariants as ending
+use Rattle.framehop_calls.specs.declared.sample_walks.Walked.{Walked}
 use Rattle.framehop_calls.specs.Statuses.{ok, end_of_stack, need_word, full, error_status, no_unwinder, no_cache}
 
 -- the status of a call that names an unwinder and a cache

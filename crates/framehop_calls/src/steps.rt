@@ -7,10 +7,11 @@ ghost use Rattle.framehop_calls.specs.CallViews.{step_call};
 ghost use Rattle.framehop_calls.specs.Places.{frame_numbered};
 ghost use Rattle.framehop_calls.specs.Steps.{StepsByNumber, return_address_by, status_of_numbers, step_status, word_by, word_of_error};
 
+use crate::sample::Sample;
+use crate::sample_steps::{SampleStep, step_if_held};
 use crate::session::CountedSession;
 use crate::status::{END_OF_STACK, NEED_WORD, NO_CACHE, NO_UNWINDER, OK, error_status};
 use framehop_rules::{Error, FrameAddress};
-use framehop_samples::{Sample, SampleStep, step_in_sample};
 use framehop_unwinder::{CacheId, ModuleUnwinding, UnwinderId};
 
 /// A call for a step: the unwinder and the cache by their numbers, the frame's address and registers, and where what the step gives is
@@ -95,11 +96,7 @@ impl<A: ModuleUnwinding> CountedSession<A> {
     {
         let unwinder = UnwinderId::numbered(call.unwinder as usize);
         let cache = CacheId::numbered(call.cache as usize);
-        let status = self.status_of(unwinder, cache);
-        if status != OK {
-            return status;
-        }
-        let step = step_in_sample(
+        let made = step_if_held(
             &mut self.session,
             unwinder,
             cache,
@@ -107,6 +104,9 @@ impl<A: ModuleUnwinding> CountedSession<A> {
             &mut call.regs,
             sample,
         );
-        tell(step, &mut call.return_address, &mut call.word_address)
+        match made {
+            Ok(step) => tell(step, &mut call.return_address, &mut call.word_address),
+            Err(_) => self.status_of(unwinder, cache),
+        }
     }
 }

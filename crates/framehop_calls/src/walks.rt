@@ -1,16 +1,17 @@
 //! Walks by numbers.
 
 ghost use Rattle.std.specs.Prelude.{◌≡◌, Some, option_map};
-ghost use Rattle.framehop_samples.specs.Walks.{position_of};
+ghost use Rattle.framehop_calls.specs.SampleWalks.{position_of};
 ghost use Rattle.framehop_calls.specs.CallViews.{viewed};
 ghost use Rattle.framehop_calls.specs.Places.{position_numbered};
 ghost use Rattle.framehop_calls.specs.Steps.{WalksByNumber, walk_status, word_at_end};
 
+use crate::sample::Sample;
+use crate::sample_walks::{SampleWalk, WalkEnd, WalkPlace, walk_in_sample};
 use crate::session::CountedSession;
 use crate::status::{END_OF_STACK, FULL, NEED_WORD, OK, error_status};
 use crate::steps::write_word;
 use framehop_rules::FrameAddress;
-use framehop_samples::{Sample, SampleWalk, WalkEnd, WalkPlace, walk_in_sample};
 use framehop_unwinder::{CacheId, ModuleUnwinding, UnwinderId};
 
 /// A call for a walk: the unwinder and the cache by their numbers, where the walk is, and where what it gives is written.

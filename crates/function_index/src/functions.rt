@@ -86,8 +86,8 @@ fn push_function(
 fn all_ranked(alloc: Global, symbols: &SymbolBytes<'_>) -> Result<Vec<RankedFunction>, AllocError>
     ensures { IfOk result (λ functions. functions.items ≡ all_ranked (symbols_seen symbols.now)) }
 {
-    let mut functions = Vec::new(alloc);
     let mut left = symbols.table.len() / ENTRY_SIZE;
+    let mut functions = Vec::with_capacity(alloc, left)?;
     'symbols: while left > 0 {
         left -= 1;
         push_function(&mut functions, symbols, left)?;
@@ -121,7 +121,7 @@ pub(crate) fn reaches_of(
 ) -> Result<Vec<u64>, AllocError>
     ensures { IfOk result (λ reaches. reaches.items ≡ reaches_from 0 functions.now) }
 {
-    let mut reaches = Vec::new(alloc);
+    let mut reaches = Vec::with_capacity(alloc, functions.len())?;
     let mut reach = 0;
     for function in functions {
         reach = reach.max(function.entry.last);

@@ -1,9 +1,9 @@
 use Rattle.std.proofs.Common.{rules, ℕ, take, subst}
 use Rattle.framehop_unwinder.specs.IdViews.{cache_number, unwinder_number}
 use Rattle.framehop_unwinder.specs.State.{SessionState}
-use Rattle.framehop_samples.specs.Samples.{words_of}
-use Rattle.framehop_samples.specs.Steps.{KeepsModules}
-use Rattle.framehop_samples.specs.Walks.{WalksOver, walk_in, walk_of}
+use Rattle.framehop_calls.specs.Samples.{words_of}
+use Rattle.framehop_calls.specs.SampleSteps.{KeepsModules}
+use Rattle.framehop_calls.specs.SampleWalks.{WalksOver, walk_in, walk_of}
 use Rattle.framehop_calls.proofs.session.CountedSession.walk.Goals as goal
 
 pub returns : goal.returns

@@ -1,0 +1,4 @@
+-- The definitions that the contracts cite.
+pub mod Callers
+pub mod Ways
+pub mod WaysAarch64

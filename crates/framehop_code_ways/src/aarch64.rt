@@ -1,0 +1,51 @@
+//! Ways on aarch64.
+ghost use Rattle.std.specs.Prelude.{◌≡◌};
+ghost use Rattle.framehop_code_ways.specs.WaysAarch64.{IsLedTo, ends_by_branch, first_rule, is_unknown_end};
+
+use crate::way::{BranchesOut, WayUnwinding};
+use framehop_rules::aarch64::{ArchAarch64, UnwindRuleAarch64};
+use framehop_ways::{Bounds, Executed, Instruction, first_way, way_rule};
+use framehop_ways_returns::ways_return;
+
+// Whether the last instruction of a way is a branch to an address that its code says.
+fn ends_by_branch(way: &[Executed]) -> bool
+    ensures { result ≡ ends_by_branch way.now }
+{
+    match way.last() {
+        Some(last) => match last.instruction {
+            Instruction::Branch { .. } => true,
+            _ => false,
+        },
+        None => false,
+    }
+}
+
+// Whether it isn't known that a way leaves the function.
+fn is_unknown_end(branches_out: BranchesOut, way: &[Executed]) -> bool
+    ensures { result ≡ is_unknown_end branches_out way.now }
+{
+    match branches_out {
+        BranchesOut::TailCalls => false,
+        BranchesOut::Unknown => ends_by_branch(way),
+    }
+}
+
+impl WayUnwinding for ArchAarch64 {
+    ghost first_rule = { first_rule };
+
+    ghost leads = { IsLedTo };
+
+    fn first_way_rule(
+        branches_out: BranchesOut,
+        text: &[u8],
+        bounds: Bounds,
+        at: usize,
+    ) -> Option<UnwindRuleAarch64> {
+        ways_return();
+        let way = first_way(text, bounds, at)?;
+        if is_unknown_end(branches_out, way.as_slice()) {
+            return None;
+        }
+        way_rule(way.as_slice())
+    }
+}

@@ -1,0 +1,4 @@
+pub mod Numbers
+pub mod Stacks
+pub mod Turns
+pub mod Unset

@@ -1,4 +1,0 @@
-pub mod Calls
-pub mod Moves
-pub mod Passing
-pub mod StillCallback

@@ -1,0 +1,2 @@
+pub mod AgreeingCallers
+pub mod CallerRegisters
