@@ -6,7 +6,7 @@ use Rattle.dwarf_constants.specs.declared.constants.TheConstants.{DW_EH_PE_uleb1
 use Rattle.dwarf_constants.specs.declared.error.Error.{Error}
 use Rattle.dwarf_constants.specs.declared.error.Error.TheVariants.{OutOfMemory, UnknownPointerEncoding}
 use Rattle.dwarf_readers.specs.Memory.{NeverWantsMemory}
-use Rattle.dwarf_readers.specs.Stretch.{Stretch, ◌>>=◌}
+use Rattle.dwarf_readers.specs.Stretch.{Stretch}
 use Rattle.dwarf_readers.proofs.Laws.{behind_memory, memory_err, memory_if, memory_ok, memory_test, memory_then, offset_memory}
 use Rattle.dwarf_frame_rows.specs.FrameSection.{FrameSection}
 use Rattle.dwarf_frame_rows.specs.declared.base_addresses.BaseAddresses.{BaseAddresses}

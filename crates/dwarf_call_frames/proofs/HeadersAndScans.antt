@@ -1,6 +1,6 @@
 -- A lookup by a truthful header finds what a scan of the section does.
-use Rattle.std.proofs.Common.{◌≡◌, ℕ, zero, suc, ◌<◌, Bool, true, false, List, [], Option, Some, None, Result, Ok, Err, refl, sym, ap, ◌∙◌, arith}
-use Rattle.std.specs.Prelude.{◌&&◌, nat_le, nat_lt}
+use Rattle.std.proofs.Common.{◌≡◌, ℕ, zero, suc, false, [], None, Result, Ok, Err, refl, sym, ap, ◌∙◌, arith}
+use Rattle.std.specs.Prelude.{nat_le}
 use Rattle.std.specs.List.{Contains}
 use Rattle.std.proofs.lemmas.Bool.Decides.{nat_tests}
 use Rattle.std.proofs.lemmas.List.Elements.{All-contains}
@@ -11,7 +11,7 @@ use Rattle.dwarf_frame_rows.specs.declared.base_addresses.BaseAddresses.{BaseAdd
 use Rattle.dwarf_frame_rows.specs.declared.pointer.Pointer.{Pointer}
 use Rattle.dwarf_frame_rows.specs.FrameSection.{FrameSection}
 use Rattle.dwarf_frame_entries.specs.AddressLookups.{fde_for_address_skipping}
-use Rattle.dwarf_frame_entries.specs.Entries.{Fde, contains, end_address, fde_from_offset}
+use Rattle.dwarf_frame_entries.specs.Entries.{Fde, contains, fde_from_offset}
 use Rattle.dwarf_frame_entries.specs.SectionFdes.{StandsAtItsOffset, nearest_fde, whole_fdes}
 use Rattle.dwarf_frame_entries.proofs.Laws.{fdes_there}
 use Rattle.list_laws.proofs.Laws.{by_case, by_option}

@@ -4,6 +4,8 @@ pub mod HeaderRows
 pub mod HeadersAndScans
 pub mod Increasing
 pub mod Laws
+pub mod LinkedHeaders
+pub mod LinkedOffsets
 pub mod NamedEntries
 pub mod Onward
 pub mod RowsBetween

@@ -4,3 +4,4 @@ pub mod Halving
 pub mod HeaderEntries
 pub mod EhFrameCies
 pub mod Truthful
+pub mod Linked

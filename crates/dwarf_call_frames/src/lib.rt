@@ -16,6 +16,7 @@
 mod fde;
 mod header;
 mod iter;
+mod linked;
 mod rows;
 pub mod search;
 mod table;
@@ -41,4 +42,5 @@ pub use dwarf_frame_rows::{
 pub use dwarf_frame_sections::{DebugFrame, EhFrame};
 pub use header::{EhFrameHdr, ParsedEhFrameHdr};
 pub use iter::EhHdrTableIter;
+pub use linked::LinkedHeader;
 pub use table::EhHdrTable;

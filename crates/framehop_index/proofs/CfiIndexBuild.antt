@@ -17,7 +17,7 @@ use Rattle.framehop_errors.specs.declared.cfi_index.DwarfCfiIndexError.{DwarfCfi
 use Rattle.framehop_errors.specs.declared.cfi_index.DwarfCfiIndexError.TheVariants.{Gimli, OutOfMemory}
 use Rattle.dwarf_frame_entries.specs.Entries.{AnyEntry, Cie, Fde, PartialFde, fde_of}
 use Rattle.dwarf_frame_entries.specs.EntryLists.{ListEnd, SectionEnd, Terminator, Failed, end_error, entries_of, list_end, list_error}
-use Rattle.dwarf_frame_entries.specs.SectionFdes.{IsOfSection, fde_in, whole_fdes, nearest_fde}
+use Rattle.dwarf_frame_entries.specs.SectionFdes.{fde_in, whole_fdes, nearest_fde}
 use Rattle.dwarf_frame_entries.specs.declared.entries.Entry.TheVariants as which
 use Rattle.dwarf_frame_entries.proofs.Laws.{entries_within_bytes}
 use Rattle.framehop_index.specs.EntryFor.{fits_index, has_index, index_error, indexed_entry, indexed_fdes, is_left_out, left_out}

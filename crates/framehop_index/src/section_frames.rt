@@ -2,13 +2,15 @@
 
 ghost use Rattle.std.specs.Prelude.{◌≡◌, ◌+◌, ◌<◌, ◌^◌, ℕ, List, IfOk};
 ghost use Rattle.framehop_index.specs.FdeLookups.{ByIndex};
-ghost use Rattle.framehop_index.specs.SectionFramesViews.{AreFoundBy, MakesEntries, entries_fde, entries_view};
+ghost use Rattle.dwarf_call_frames.specs.Linked.{IsKeptOf};
+ghost use Rattle.framehop_index.specs.SectionFramesViews.{AreFoundBy, MakesEntries, entries_fde, entries_view, offset_by_bytes};
 
 use crate::cfi_index::DwarfCfiIndex;
 use crate::fde_lookups::{
     FoundFde, LentFde, fde_found, fde_found_around, lookup_address, offset_by_header, parsed_header,
 };
 use crate::section_type::UnwindSectionType;
+use dwarf_call_frames::LinkedHeader;
 use dwarf_frame_entries::{BaseAddresses, DebugFrame, EhFrame, UnwindSection};
 use dwarf_read_core::{EndianSlice, LittleEndian, Reader};
 use framehop_errors::{DwarfCfiIndexError, UnwinderError};
@@ -16,11 +18,31 @@ use framehop_modules::SectionBytes;
 use std::alloc::{AllocError, Global};
 use std::marker::Model;
 
+// The bytes of a header, and what is kept of it, if it is as linkers write it.
+#[derive(Drop)]
+struct HeaderBytes<D> {
+    bytes: D,
+    kept: Option<LinkedHeader>,
+}
+
+impl<D: SectionBytes> HeaderBytes<D> {
+    ghost use Rattle.std.specs.Prelude.{IfSome};
+
+    // The bytes of a header with what is kept of it.
+    fn of(bytes: D, bases: &BaseAddresses) -> Self
+        ensures bytes { result.bytes ≡ bytes }
+        ensures kept { IfSome result.kept (IsKeptOf bases.now (D.content bytes)) }
+    {
+        let kept = LinkedHeader::of(bytes.bytes(), bases);
+        HeaderBytes { bytes, kept }
+    }
+}
+
 // How the FDEs of a section are found.
 #[derive(Drop)]
 enum Entries<D> {
     // By the table of the section's header.
-    Header(D),
+    Header(HeaderBytes<D>),
     // By an index of the section.
     Index(DwarfCfiIndex),
     // By an index, which the section doesn't have.
@@ -53,8 +75,8 @@ impl<D: SectionBytes> Model for SectionFrames<D> {
       base_svma = frames.base_svma;
     } };
 
-    // an index is that of the section, and only a section that has none lacks one
-    ghost invariant = { λ frames. AreFoundBy frames.base_svma
+    // what is kept of a header is that of its bytes, an index is that of the section, and only a section that has none lacks one
+    ghost invariant = { λ frames. AreFoundBy D.content frames.bases frames.base_svma
         (section_of_type frames.bases (frame_section_bytes D.content frames.section)) frames.entries };
 }
 
@@ -73,6 +95,39 @@ fn index_made<D>(index: Result<DwarfCfiIndex, DwarfCfiIndexError>) -> Result<Ent
     }
 }
 
+// The offset of the FDE that the table of a header names for an address, by what is kept of the header.
+#[inline(always)]
+fn offset_by_kept(
+    kept: &LinkedHeader,
+    bytes: &[u8],
+    bases: &BaseAddresses,
+    base_svma: u64,
+    relative_address: u32,
+    address: u64,
+) -> Option<u32>
+    requires kept { IsKeptOf bases.now bytes.now kept.now }
+    requires address { address ≡ base_svma + relative_address }
+    ensures { result ≡ offset_by_bytes bases.now bytes.now base_svma relative_address }
+{
+    let offset = kept.fde_offset(bytes, address).ok()?;
+    u32::try_from(offset).ok()
+}
+
+// The same by a header that isn't as linkers write it, which is parsed for each look-up.
+#[cold]
+#[inline(never)]
+fn offset_by_parsed(
+    bytes: &[u8],
+    bases: &BaseAddresses,
+    base_svma: u64,
+    relative_address: u32,
+) -> Option<u32>
+    ensures { result ≡ offset_by_bytes bases.now bytes.now base_svma relative_address }
+{
+    let header = parsed_header(bytes, bases);
+    offset_by_header(&header, bases, base_svma, relative_address)
+}
+
 // The FDE of a section for an address, by what finds its FDEs.
 #[inline(always)]
 fn fde_by<D: SectionBytes, R: Reader<Offset = usize>, Section: UnwindSection<R>>(
@@ -83,15 +138,25 @@ fn fde_by<D: SectionBytes, R: Reader<Offset = usize>, Section: UnwindSection<R>>
     relative_address: u32,
     address: u64,
 ) -> FoundFde<R>
-    requires found { AreFoundBy base_svma (Section.frame section.now bases.now) entries.now }
+    requires found { AreFoundBy D.content bases.now base_svma (Section.frame section.now bases.now) entries.now }
     requires address { address ≡ base_svma + relative_address }
     ensures { result ≡ entries_fde D.content entries.now bases.now
         (Section.frame section.now bases.now) base_svma relative_address }
 {
     match entries {
         Entries::Header(header) => {
-            let header = parsed_header(header.bytes(), bases);
-            let offset = offset_by_header(&header, bases, base_svma, relative_address);
+            let bytes = header.bytes.bytes();
+            let offset = match &header.kept {
+                Some(kept) => offset_by_kept(
+                    kept,
+                    bytes,
+                    bases,
+                    base_svma,
+                    relative_address,
+                    address,
+                ),
+                None => offset_by_parsed(bytes, bases, base_svma, relative_address),
+            };
             fde_found(
                 section,
                 bases,
@@ -162,6 +227,7 @@ impl<D: SectionBytes> SectionFrames<D> {
         ensures { result
             ≡ placed (frame_section_bytes D.content section) (ByHeader (D.content header)) bases.now base_svma }
     {
+        let header = HeaderBytes::of(header, bases);
         SectionFrames {
             section,
             entries: Entries::Header(header),

@@ -18,6 +18,6 @@ returns-in-Unindexed g c =
     let section : FrameSection = g.Section._UnwindSectionPrivate.frame c.args.section.now c.args.bases.now in
     let base = c.args.base_svma in
     let relative = c.args.relative_address in
-    let none : has_index section ≡ false = subst (λ e. AreFoundBy base section e) c.in-Unindexed.is c.requires.found in
+    let none : has_index section ≡ false = subst (λ e. AreFoundBy g.D.SectionBytes.content c.args.bases.now base section e) c.in-Unindexed.is c.requires.found in
     sym (ap (λ e. fde_by (entries_view g.D.SectionBytes.content e) c.args.bases.now section base relative) c.in-Unindexed.is
     ∙ ap (λ (o : Option Fde). fde_found section DwarfCfiIndexCouldNotFindAddress (option_map (λ (f : Fde). f.head.offset) o)) (none-indexed base relative section none))
