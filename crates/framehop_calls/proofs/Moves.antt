@@ -81,7 +81,7 @@ module _ {Registers : Type 0} (frame : Frame) (registers : Registers) where
   failed OutOfMemory new outcome is = ap (λ r. record { position = At frame; registers = r }) is.stays.registers.error
 
   -- where a step led, the move leads
-  led : (answer : Result (Option ℕ) Error) (new : Registers) (made : SampleMove) (walk : Walk Registers) (outcome : Outcome (Caller Registers))
+  pub led : (answer : Result (Option ℕ) Error) (new : Registers) (made : SampleMove) (walk : Walk Registers) (outcome : Outcome (Caller Registers))
       → IsAnswered answer registers new outcome → GoesBy answer made (record { position = At frame; registers = new }) walk
       → MovesBy made here (move_by frame registers outcome) walk
   led (Ok (Some return_address)) new made walk outcome is goes = stepped return_address new made walk outcome (is.step refl) goes

@@ -1,6 +1,7 @@
 -- Walks over a sample: moves of a walk, one after the other, up to where it stops.
 use Rattle.std.specs.Prelude.{ℕ, ◌≡◌, ◌≢◌, ◌≤◌, List, [], ◌∷◌, length, take, drop, Bool, false, Option, Some, None, Result, Ok, Err}
 use Rattle.framehop_registers.specs.Callback.{Words}
+use Rattle.framehop_registers.specs.declared.code_address.FrameAddress.{FrameAddress}
 use Rattle.framehop_registers.specs.declared.error.Error.{Error}
 use Rattle.framehop_registers.specs.declared.error.Error.TheVariants.{CouldNotReadStack, FramepointerUnwindingMovedBackwards, DidNotAdvance, IntegerOverflow, ReturnAddressIsNull, OutOfMemory}
 use Rattle.framehop_unwinder.specs.Attempt.{Meanings}
@@ -12,6 +13,8 @@ use Rattle.framehop_unwinder.specs.Trials.{wants_memory}
 use Rattle.framehop_unwinder.specs.Walk.{WalkPosition, Starts, At, Over, Walk, Move, move}
 use Rattle.framehop_unwinder.specs.declared.ids.CacheId.{CacheId}
 use Rattle.framehop_unwinder.specs.declared.ids.UnwinderId.{UnwinderId}
+use Rattle.framehop_unwinder.specs.declared.runs.RunEnd.{RunEnd}
+use Rattle.framehop_unwinder.specs.declared.runs.RunEnd.TheVariants as run
 use Rattle.framehop_calls.specs.Samples.{words_of}
 use Rattle.framehop_calls.specs.SampleSteps.{IsAskedFor}
 use Rattle.framehop_calls.specs.declared.sample.Sample.{Sample}
@@ -126,6 +129,27 @@ through m unwinder cache sample = record {
   cache = cache_number cache;
 }
 
+-- a walk over a sample that is at a frame
+abbrev pub walk_at : {Registers : Type 0} → FrameAddress → Registers → SampleWalk Registers
+walk_at address registers = record { place = place.At address; regs = registers }
+
+-- why a walk stops whose steps stop so
+abbrev pub walk_end : RunEnd → WalkEnd
+walk_end run.Full = ending.Full
+walk_end run.EndOfStack = ending.EndOfStack
+walk_end (run.Failed error) = ending.Failed error
+
+-- where a walk is whose steps stop so at a frame: over at the end of the stack and after a return address of 0
+abbrev pub place_after : RunEnd → FrameAddress → WalkPlace
+place_after run.Full address = place.At address
+place_after run.EndOfStack address = place.Over
+place_after (run.Failed (CouldNotReadStack at)) address = place.At address
+place_after (run.Failed FramepointerUnwindingMovedBackwards) address = place.At address
+place_after (run.Failed DidNotAdvance) address = place.At address
+place_after (run.Failed IntegerOverflow) address = place.At address
+place_after (run.Failed ReturnAddressIsNull) address = place.Over
+place_after (run.Failed OutOfMemory) address = place.At address
+
 -- a walk over a sample, and the session that it is in
 abbrev pub walk_in : {Data Rule Registers : Type 0} → SampleWalk Registers → SessionState Data Rule → WalkIn Data Rule Registers
 walk_in walk session = record { walk = walk_of walk; session = session }
@@ -172,6 +196,11 @@ abbrev pub WalksAs : {Data Rule Registers : Type 0} → Through Data Rule Regist
     → Walked → (frames : List ℕ) → SampleWalk Registers → SessionState Data Rule → Type 0
 WalksAs t old session walked frames new new_session =
     WalksOver t (walk_in old session) (take walked.count frames) walked.end (walk_in new new_session)
+
+-- the same of a walk that is at a frame with these registers
+abbrev pub WalksFrom : {Data Rule Registers : Type 0} → Through Data Rule Registers → FrameAddress → SampleWalk Registers → SessionState Data Rule
+    → Walked → (frames : List ℕ) → SampleWalk Registers → SessionState Data Rule → Type 0
+WalksFrom t at old session walked frames new new_session = WalksAs t (walk_at at old.regs) session walked frames new new_session
 
 -- A walk writes within the room, and nothing behind its frames. It is full only if all the room is taken.
 pub record WritesFrames (walked : Walked) (old new : List ℕ) : Type 0 where

@@ -1,7 +1,6 @@
 -- Values by numbers: what is held under one, and what holds of all that are.
-use Rattle.std.proofs.Common.{◌≡◌, ◌∙◌, ℕ, zero, suc, ◌<◌, List, [], ◌∷◌, ◌++◌, Option, Some, None, sym, ap, subst, refl, arith, length, get_or, map}
+use Rattle.std.proofs.Common.{◌≡◌, ℕ, zero, suc, List, [], ◌∷◌, ◌++◌, Option, Some, None, sym, ap, subst, refl, arith, get_or, map}
 use Rattle.std.specs.Prelude.{slice_set, option_map, unwrap_or, IfSome}
-use Rattle.std.specs.List.{All}
 use Rattle.std.proofs.lemmas.List.Elements.{All-set, All-push}
 use Rattle.framehop_unwinder.specs.ByNumber.{AllHeld, held, mark, marks, with_changed}
 
@@ -42,6 +41,18 @@ module _ {X : Type 0} where
   set-held [] i x is = absurd (let no : None ≡ Some x = is in cc)
   set-held (o ∷ xs) zero x is = ap (λ (y : Option X). y ∷ xs) (sym is)
   set-held (o ∷ xs) (suc i) x is = ap (λ (ys : List (Option X)). o ∷ ys) (set-held xs i x is)
+
+  -- what is put in a place that has something is there
+  pub held-put : (xs : List (Option X)) (i : ℕ) (x y : X) → held xs i ≡ Some x → held (slice_set xs i (Some y)) i ≡ Some y
+  held-put [] i x y is = absurd (let no : None ≡ Some x = is in cc)
+  held-put (o ∷ xs) zero x y is = refl
+  held-put (o ∷ xs) (suc i) x y is = held-put xs i x y is
+
+  -- the last that is put in a place counts
+  pub set-again : (xs : List (Option X)) (i : ℕ) (x y : Option X) → slice_set (slice_set xs i x) i y ≡ slice_set xs i y
+  set-again [] i x y = refl
+  set-again (o ∷ xs) zero x y = refl
+  set-again (o ∷ xs) (suc i) x y = ap (λ (ys : List (Option X)). o ∷ ys) (set-again xs i x y)
 
   mark-changed : (change : X → X) (o : Option X) → option_map mark (option_map change o) ≡ option_map mark o
   mark-changed change None = refl

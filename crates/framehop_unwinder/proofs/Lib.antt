@@ -8,6 +8,7 @@ mod KeyLists
 mod Loads
 mod ModulesInOrder
 mod Occupancies
+mod PassedFrames
 mod Sessions
 mod Slots
 mod Sound

@@ -1,6 +1,6 @@
 -- A step by a kept rule, and by an attempt, is the judge's; and what it keeps.
 use Rattle.std.proofs.Common.{◌≡◌, ◌∙◌, ◌-◌, ℕ, Bool, true, false, List, Option, Some, None, Result, Ok, Err, ap, sym, subst, refl}
-use Rattle.std.specs.Prelude.{IfErr, IsTrue, ◌↔◌, not}
+use Rattle.std.specs.Prelude.{IfErr, IsTrue, ◌↔◌, not, if◌then◌else◌}
 use Rattle.framehop_registers.specs.Callback.{Words}
 use Rattle.framehop_registers.specs.FrameAddress.{lookup_address_of, IsReturnAddress}
 use Rattle.framehop_registers.specs.declared.code_address.FrameAddress.{FrameAddress}
@@ -89,10 +89,17 @@ module _ {Rule : Type 0} (kept : Key → Option Rule) (key : Key) (layout : Layo
   miss-of OtherModules handle rule is = let e : handle ≡ key = cc in ap (λ k. with_any layout sets k rule) e
   miss-of OtherAddress handle rule is = let e : handle ≡ key = cc in ap (λ k. with_any layout sets k rule) e
 
-  -- after one that misses, what is to be kept is
-  pub miss-keeps : (wanted : Bool) (handle : Key) (rule : Option Rule) → Miss handle ≡ result_of key (found_in layout sets key) → (wanted ≡ true → rule ≡ None) → (wanted ≡ false → rule ≡ kept key) → with_any layout sets handle rule ≡ sets_after wanted kept key layout sets
-  miss-keeps true handle rule is none same = ap (with_any layout sets handle) (none refl)
-  miss-keeps false handle rule is none same = miss-of (found_in layout sets key) handle rule is ∙ ap (λ r. with_missed layout sets key r (found_in layout sets key)) (same refl)
+  -- what is to be kept is, unless memory was wanted
+  pub answer-keeps : (wanted : Bool) (handle : Key) (rule here : Option Rule) → (wanted ≡ true → rule ≡ None) → (wanted ≡ false → rule ≡ here)
+      → with_any layout sets handle rule ≡ (if wanted then sets else with_any layout sets handle here)
+  answer-keeps true handle rule here none same = ap (with_any layout sets handle) (none refl)
+  answer-keeps false handle rule here none same = ap (with_any layout sets handle) (same refl)
+
+  -- after a look-up that misses, the step keeps that
+  pub miss-keeps : (wanted : Bool) (handle : Key) → Miss handle ≡ result_of key (found_in layout sets key)
+      → (if wanted then sets else with_any layout sets handle (kept key)) ≡ sets_after wanted kept key layout sets
+  miss-keeps true handle is = refl
+  miss-keeps false handle is = miss-of (found_in layout sets key) handle (kept key) is
 
 -- where memory was wanted nothing is to be kept
 pub wanted-keeps-none : {Rule : Type 0} (fallback : Rule) (answer : Result (UnwindResult Rule) UnwindFailure) → has_wanted answer ≡ true → rule_of_result fallback answer ≡ None

@@ -5,7 +5,7 @@ use Rattle.framehop_registers.specs.Callback.{Words}
 use Rattle.framehop_rules.specs.Outcome.{Outcome, Answers, Caller}
 use Rattle.framehop_unwinder.specs.Attempt.{Attempt, Says, Evaluates, SaysNothing, Meanings, attempt_at}
 use Rattle.framehop_unwinder.specs.Frames.{Frame, lookup_address}
-use Rattle.framehop_unwinder.specs.Modules.{Loaded}
+use Rattle.framehop_unwinder.specs.Modules.{Loaded, Loads}
 
 -- the caller of this frame, or what is done if there is none
 abbrev pub or_else : {Registers : Type 0} → Option (Caller Registers) → Outcome (Caller Registers) → Outcome (Caller Registers)
@@ -24,6 +24,11 @@ by_attempt m first registers words SaysNothing = m.meaning m.fallback first regi
 abbrev pub judge_at : {Data Rule Registers : Type 0} → Meanings Data Rule Registers → List (Loaded Data) → Bool → ℕ
     → Registers → Words → Outcome (Caller Registers)
 judge_at m modules first address registers words = by_attempt m first registers words (attempt_at m modules first address)
+
+-- the same by what an unwinder has
+abbrev pub judged_at : {Data Rule Registers : Type 0} → Meanings Data Rule Registers → Loads (Loaded Data) → Bool → ℕ
+    → Registers → Words → Outcome (Caller Registers)
+judged_at m loads first address registers words = judge_at m loads.modules first address registers words
 
 -- the judgment of a step
 abbrev pub judge : {Data Rule Registers : Type 0} → Meanings Data Rule Registers → List (Loaded Data) → Frame

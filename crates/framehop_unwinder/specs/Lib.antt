@@ -16,6 +16,7 @@ pub mod Moves
 pub mod NumberedViews
 pub mod Progress
 pub mod RulesKept
+pub mod Runs
 pub mod SessionViews
 pub mod State
 pub mod Trials

@@ -4,7 +4,7 @@ use Rattle.std.specs.Prelude.{ℕ, ◌≡◌, List, Bool, true, Option, Some, No
 use Rattle.framehop_registers.specs.declared.code_address.FrameAddress.{FrameAddress}
 use Rattle.framehop_registers.specs.declared.error.Error.{Error}
 use Rattle.framehop_unwinder.specs.Frames.{Frame, first_frame, frame_of}
-use Rattle.framehop_unwinder.specs.Memory.{AsksMemory, WantsMemoryOnlyIf}
+use Rattle.framehop_unwinder.specs.Memory.{AsksMemory, WantsFrom, WantsMemoryOnlyIf}
 use Rattle.framehop_unwinder.specs.Modules.{Loaded}
 use Rattle.framehop_unwinder.specs.Trials.{IsOfStep, wants_memory}
 use Rattle.framehop_unwinder.specs.Walk.{WalkPosition, Starts, At, Over, Walk}
@@ -37,6 +37,10 @@ MoveAsks asks Over = ⊥
 abbrev pub MoveWants : {Data : Type 0} → Bool → (Data → ℕ → Bool → Type 0) → List (Loaded Data) → WalkPosition → (wanted : Bool) → Type 0
 MoveWants takes_memory asks modules position wanted =
     WantsMemoryOnlyIf takes_memory wanted (MoveAsks (AsksMemory asks modules) position)
+
+-- a step from a frame runs out of memory only if the module that is found for it may allocate
+abbrev pub StepWants : {A Data : Type 0} → Bool → (Data → ℕ → Bool → Type 0) → List (Loaded Data) → FrameAddress → Result A Error → Type 0
+StepWants takes_memory asks modules address answer = WantsFrom takes_memory asks modules (frame_of address) (wants_memory answer)
 
 -- where a walk is that returned this: at the frame, or over
 abbrev pub position_after : Option FrameAddress → WalkPosition

@@ -52,6 +52,25 @@ pub record StepsCache {Rule : Type 0} (kept : Key → Option Rule) (key : Key) (
   pub sets : new.sets ≡ sets_after wanted kept key old.layout old.sets
   pub counts : new.counts ≡ counts_after (found_in old.layout old.sets key) old.counts
 
+-- A cache before and after a step whose rule it hasn't: the rule is kept under the key, if there is one to keep and the step isn't out of
+-- memory.
+pub record KeepsMissed {Rule : Type 0} (kept : Option Rule) (key : Key) (wanted : Bool) (old new : Kept Rule) : Type 0 where
+  pub layout : new.layout ≡ old.layout
+  pub sets : new.sets ≡ (if wanted then old.sets else with_any old.layout old.sets key kept)
+  pub counts : new.counts ≡ old.counts
+
+-- a cache before and after a step of an unwinder that is looked up by an address
+abbrev pub StepsCacheAt : {Data Rule Registers : Type 0} → Meanings Data Rule Registers → Loads (Loaded Data) → (is_first : Bool) → (address : ℕ)
+    → (wanted : Bool) → Kept Rule → Kept Rule → Type 0
+StepsCacheAt m loads is_first address wanted old new =
+    StepsCache (rule_kept m loads.modules) (key_of address is_first loads.generation) wanted old new
+
+-- the same after a look-up that misses, which gave this key
+abbrev pub MissKeeps : {Data Rule Registers : Type 0} → Meanings Data Rule Registers → Loads (Loaded Data) → (is_first : Bool) → (address : ℕ) → Key
+    → (wanted : Bool) → Kept Rule → Kept Rule → Type 0
+MissKeeps m loads is_first address key wanted old new =
+    KeepsMissed (rule_kept m loads.modules (key_of address is_first loads.generation)) key wanted old new
+
 -- an entry of this generation holds the rule that is kept for its key
 abbrev pub FitsEntry : {Rule : Type 0} → (Key → Option Rule) → ℕ → KeptRule Rule → Type 0
 FitsEntry kept generation entry = entry.key.generation ≡ generation → kept entry.key ≡ Some entry.rule

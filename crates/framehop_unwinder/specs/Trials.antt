@@ -64,6 +64,11 @@ wants_memory (Err OutOfMemory) = true
 abbrev pub StepsAs : {Registers : Type 0} → Result (Option ℕ) Error → Registers → Registers → Outcome (Caller Registers) → Type 0
 StepsAs result old new outcome = wants_memory result ≡ false → IsStep result old new outcome
 
+-- unless it is out of memory, a step that took the callback from one state to another is the one that is judged of the registers and the words
+abbrev pub StepsOver : {Stack Registers : Type 0} → (Stack → ℕ → Result ℕ (Unit {0}) → Stack → Type 0) → Stack → Stack
+    → (Registers → Words → Outcome (Caller Registers)) → Result (Option ℕ) Error → Registers → Registers → Type 0
+StepsOver step first last judged result old new = OverWords step first last (λ words. StepsAs result old new (judged old words))
+
 -- an error of a step: one of a rule's, or that it is out of memory
 abbrev pub IsOfStep : Error → Type 0
 IsOfStep (CouldNotReadStack address) = Unit {0}

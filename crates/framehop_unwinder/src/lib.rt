@@ -8,6 +8,7 @@ mod iterator;
 pub mod laws;
 mod module;
 mod numbered;
+mod runs;
 mod session;
 mod session_iterator;
 mod unwinder;
@@ -22,6 +23,7 @@ pub use framehop_rules::{
 pub use ids::{CacheId, StaleId, UnwinderId};
 pub use iterator::{StackWalk, UnwindIterator};
 pub use module::Module;
+pub use runs::{Run, RunEnd};
 pub use session::{AddUnwinderError, Session};
 pub use session_iterator::SessionUnwindIterator;
 pub use unwinder::UnwinderInternal;

@@ -1,6 +1,6 @@
 //! Many unwinders, which share caches under one counter of generations.
 
-ghost use Rattle.std.specs.Prelude.{◌≡◌, ◌≤◌, ◌+◌, ◌^◌, ◌-◌, ◌∷◌, ◌++◌, [], true, false, Ok, Err, None, length, IfOk, IfErr, IsErr, OnOk, OnErr};
+ghost use Rattle.std.specs.Prelude.{◌≡◌, ◌≤◌, ◌+◌, ◌^◌, ◌-◌, ◌∷◌, ◌++◌, [], true, false, Ok, Err, None, Some, length, IfOk, IfErr, IfNone, IfSome, IsErr, OnOk, OnErr};
 ghost use Rattle.framehop_registers.specs.Callback.{OverWords};
 ghost use Rattle.framehop_modules.specs.LoadErrors.{module_returned, is_exhausted};
 ghost use Rattle.framehop_rules.specs.Occupancy.{occupancy_of};
@@ -9,9 +9,9 @@ ghost use Rattle.framehop_unwinder.specs.History.{CountsByHistory, GainNewHistor
 ghost use Rattle.framehop_unwinder.specs.HitReads.{MoveReads, ReadsIfKnown, reads_by};
 ghost use Rattle.framehop_unwinder.specs.IdViews.{FindsHeld, MovesBy, StepsBy, cache_number, has_both, has_cache, has_module_at, has_unwinder, modules_by, unwinder_number, with_module_in, without_module_in};
 ghost use Rattle.framehop_unwinder.specs.Judge.{judge};
-ghost use Rattle.framehop_unwinder.specs.Memory.{WantsFrom};
-ghost use Rattle.framehop_unwinder.specs.Modules.{last_end};
-ghost use Rattle.framehop_unwinder.specs.Moves.{MoveWants, MovesOn};
+ghost use Rattle.framehop_unwinder.specs.Modules.{last_end, module_found};
+ghost use Rattle.framehop_unwinder.specs.Moves.{MoveWants, MovesOn, StepWants};
+ghost use Rattle.framehop_unwinder.specs.Runs.{RunWants, RunsIfHeld, StepsIn, WritesIfHeld, point};
 ghost use Rattle.framehop_unwinder.specs.State.{cache_at, empty_state, with_cache, with_clone, with_unwinder, without_cache, without_unwinder};
 ghost use Rattle.framehop_unwinder.specs.Trials.{StaysUnlessStepped, StepsAs, wants_memory};
 ghost use Rattle.framehop_unwinder.specs.WalkViews.{MovesAs, walk_from, walk_of};
@@ -21,6 +21,7 @@ use crate::ids::{CacheId, StaleId, UnwinderId};
 use crate::iterator::{StackWalk, UnwindIteratorState};
 use crate::module::Module;
 use crate::numbered::Numbered;
+use crate::runs::{Run, run_steps};
 use crate::session_iterator::SessionUnwindIterator;
 use crate::unwinder::UnwinderInternal;
 use crate::unwinders::Unwinder;
@@ -292,6 +293,26 @@ impl<A: ModuleUnwinding> Session<A> {
         }
     }
 
+    /// The module of an unwinder that an address is in, and the address relative to the module's base.
+    pub fn module_at(
+        &self,
+        unwinder: UnwinderId,
+        address: u64,
+    ) -> Result<Option<(&Module<A::UnwindData>, u32)>, StaleId>
+        ensures found { FindsHeld (has_unwinder self.now unwinder) result self.now self.now }
+        ensures none { IfOk result (λ it. IfNone it
+            (module_found (modules_by self.now unwinder) address ≡ None)) }
+        ensures module_ { IfOk result (λ it. IfSome it (λ found.
+            module_found (modules_by self.now unwinder) address ≡ Some found.0.now)) }
+        ensures relative { IfOk result (λ it. IfSome it (λ found.
+            found.1 ≡ address - found.0.now.base)) }
+    {
+        match self.unwinders.get(unwinder.place) {
+            Some(unwinder) => Ok(unwinder.module_at(address)),
+            None => Err(StaleId),
+        }
+    }
+
     /// How many look-ups in a cache found a rule so far, and why the others didn't.
     pub fn stats(&self, cache: CacheId) -> Result<CacheStats, StaleId>
         ensures found { FindsHeld (has_cache self.now cache) result self.now self.now }
@@ -342,8 +363,8 @@ impl<A: ModuleUnwinding> Session<A> {
         ensures caches { IfOk result (λ answer. StepsBy A.meanings answer
             (frame_of address) unwinder cache self.old self.new) }
         ensures stays { IfOk result (λ answer. StaysUnlessStepped answer regs.old regs.new) }
-        ensures memory { IfOk result (λ answer. WantsFrom A.takes_memory A.asks_memory
-            (modules_by self.old unwinder) (frame_of address) (wants_memory answer)) }
+        ensures memory { IfOk result (λ answer. StepWants A.takes_memory A.asks_memory
+            (modules_by self.old unwinder) address answer) }
     {
         let Some(unwinder) = self.unwinders.get(unwinder.place) else {
             return Err(StaleId);
@@ -355,6 +376,43 @@ impl<A: ModuleUnwinding> Session<A> {
             return Err(StaleId);
         };
         Ok(unwinder.unwind_frame(address, regs, cache, read_stack))
+    }
+
+    /// Makes steps of an unwinder, one after the other, with any of the caches: from the frame at an
+    /// address with these registers, up to one that gives no caller, or as many as there is room for.
+    /// Writes the return addresses. The address and the registers are then those of the last frame that was
+    /// written; but after `ReturnAddressIsNull` the registers are the caller's. The unwinder and the cache are
+    /// looked up once for all steps.
+    #[inline(always)]
+    pub fn run_steps<F: FnMut(u64) -> Result<u64, ()>>(
+        &mut self,
+        unwinder: UnwinderId,
+        cache: CacheId,
+        at: &mut FrameAddress,
+        regs: &mut A::UnwindRegs,
+        read_stack: &mut F,
+        frames: &mut [u64],
+    ) -> Result<Run, StaleId>
+        requires { F.IsAlwaysCallable read_stack.old }
+        ensures callable { F.IsAlwaysCallable read_stack.new }
+        ensures found { FindsHeld (has_both self.old unwinder cache) result self.old self.new }
+        ensures runs { RunsIfHeld (StepsIn F.step A.UnwindRule.reads A.meanings unwinder cache)
+            (point at.old regs.old read_stack.old self.old) result frames.new
+            (point at.new regs.new read_stack.new self.new) }
+        ensures written { WritesIfHeld result frames.old frames.new }
+        ensures memory { IfOk result (λ run. RunWants A.takes_memory A.asks_memory
+            (modules_by self.old unwinder) at.new run) }
+    {
+        let Some(unwinder) = self.unwinders.get(unwinder.place) else {
+            return Err(StaleId);
+        };
+        let Some(slot) = self.caches.slot_of(cache.place) else {
+            return Err(StaleId);
+        };
+        let Some(cache) = &mut self.caches.values[slot] else {
+            return Err(StaleId);
+        };
+        Ok(run_steps(unwinder, cache, at, regs, read_stack, frames))
     }
 
     /// Makes the next move of a walk over an unwinder's frames, with any of the caches: returns the

@@ -10,12 +10,12 @@ ghost use Rattle.framehop_unwinder.specs.CacheViews.{rules_of};
 ghost use Rattle.framehop_unwinder.specs.Frames.{frame_of};
 ghost use Rattle.framehop_unwinder.specs.HitReads.{StepsReading, reads_of_finding, reads_on_hit};
 ghost use Rattle.framehop_unwinder.specs.LoadLaws.{asks_alike, fits_alike};
-ghost use Rattle.framehop_unwinder.specs.Judge.{by_attempt, judge, judge_at};
+ghost use Rattle.framehop_unwinder.specs.Judge.{by_attempt, judge, judge_at, judged_at};
 ghost use Rattle.framehop_unwinder.specs.Memory.{AsksMemory, WantsAt};
 ghost use Rattle.framehop_unwinder.specs.Modules.{Loaded, nearest_module, module_found, is_loaded_at, with_loaded, without_loaded};
-ghost use Rattle.framehop_unwinder.specs.RulesKept.{FitsLoads, StepsCache, rule_kept, key_for, with_any};
+ghost use Rattle.framehop_unwinder.specs.RulesKept.{FitsLoads, MissKeeps, StepsCache, StepsCacheAt, rule_kept, key_for, with_any};
 ghost use Rattle.framehop_rules.specs.UnwindResults.{HasValidRule, KeepsUnlessDirect};
-ghost use Rattle.framehop_unwinder.specs.Trials.{AnswersAttempt, StaysUnlessStepped, StepsAs, trial, has_wanted, rule_of_result, wants_memory, IsOfStep};
+ghost use Rattle.framehop_unwinder.specs.Trials.{AnswersAttempt, StaysUnlessStepped, StepsAs, StepsOver, trial, has_wanted, rule_of_result, wants_memory, IsOfStep};
 
 use crate::cache::Cache;
 use crate::module::Module;
@@ -195,6 +195,16 @@ impl<A: ModuleUnwinding> UnwinderInternal<A> {
         }
     }
 
+    /// The module that an address is in, and the address relative to the module's base.
+    pub fn module_at(&self, address: u64) -> Option<(&Module<A::UnwindData>, u32)>
+        ensures none { IfNone result (module_found self.now.modules address ≡ None) }
+        ensures module_ { IfSome result (λ found.
+            module_found self.now.modules address ≡ Some found.0.now) }
+        ensures relative { IfSome result (λ found. found.1 ≡ address - found.0.now.base) }
+    {
+        module_for_address(&self.modules, address)
+    }
+
     // The number that the list of modules is told by.
     fn generation(&self) -> u64
         ensures { result ≡ self.now.generation }
@@ -220,7 +230,7 @@ impl<A: ModuleUnwinding> UnwinderInternal<A> {
         ensures memory { WantsAt A.takes_memory A.asks_memory self.now.modules is_first_frame
             address (has_wanted result) }
     {
-        match module_for_address(&self.modules, address) {
+        match self.module_at(address) {
             Some((module, relative_address)) => A::unwind_frame(
                 module.unwind_data(),
                 relative_address,
@@ -231,6 +241,34 @@ impl<A: ModuleUnwinding> UnwinderInternal<A> {
             ),
             None => Err(UnwindFailure::OfModule),
         }
+    }
+
+    // Makes the step from a frame whose rule the cache hasn't, by what the module says that its address is in. It isn't in line with the
+    // steps by rules that are found, which are then quicker.
+    #[inline(never)]
+    fn step_by_module<F: FnMut(u64) -> Result<u64, ()>>(
+        &self,
+        handle: CacheHandle,
+        address: u64,
+        is_first: bool,
+        regs: &mut A::UnwindRegs,
+        cache: &mut Cache<A::UnwindRule, A::UnwindContext>,
+        read_stack: &mut F,
+    ) -> Result<Option<u64>, Error>
+        requires { F.IsAlwaysCallable read_stack.old }
+        ensures callable { F.IsAlwaysCallable read_stack.new }
+        ensures step { StepsOver F.step read_stack.old read_stack.new
+            (judged_at A.meanings self.now is_first address) result regs.old regs.new }
+        ensures cache { MissKeeps A.meanings self.now is_first address handle (wants_memory result)
+            (rules_of cache.old) (rules_of cache.new) }
+        ensures stays { StaysUnlessStepped result regs.old regs.new }
+        ensures memory { WantsAt A.takes_memory A.asks_memory self.now.modules is_first
+            address (wants_memory result) }
+    {
+        let unwind_context = &mut cache.unwind_context;
+        let answer = self.attempt(address, is_first, regs, unwind_context, read_stack);
+        keep(&mut cache.rule_cache, handle, answer);
+        execute::<A, F>(answer, is_first, regs, read_stack)
     }
 
     // Makes the step from a frame that is looked up by an address.
@@ -251,24 +289,21 @@ impl<A: ModuleUnwinding> UnwinderInternal<A> {
             (judge_at A.meanings self.now.modules is_first_frame address regs.old words))
             (reads_of_finding A.UnwindRule.reads is_first_frame regs.old (found_by (rules_of cache.old)
             (key_of address is_first_frame self.now.generation))) }
-        ensures cache { StepsCache (rule_kept A.meanings self.now.modules)
-            (key_of address is_first_frame self.now.generation) (wants_memory result)
+        ensures cache { StepsCacheAt A.meanings self.now is_first_frame address (wants_memory result)
             (rules_of cache.old) (rules_of cache.new) }
         ensures stays { StaysUnlessStepped result regs.old regs.new }
         ensures memory { WantsAt A.takes_memory A.asks_memory self.now.modules is_first_frame
             address (wants_memory result) }
     {
-        let handle = match cache
+        match cache
             .rule_cache
             .lookup(address, is_first_frame, self.generation())
         {
-            CacheResult::Hit(rule) => return rule.exec(is_first_frame, regs, read_stack),
-            CacheResult::Miss(handle) => handle,
-        };
-        let unwind_context = &mut cache.unwind_context;
-        let answer = self.attempt(address, is_first_frame, regs, unwind_context, read_stack);
-        keep(&mut cache.rule_cache, handle, answer);
-        execute::<A, F>(answer, is_first_frame, regs, read_stack)
+            CacheResult::Hit(rule) => rule.exec(is_first_frame, regs, read_stack),
+            CacheResult::Miss(handle) => {
+                self.step_by_module(handle, address, is_first_frame, regs, cache, read_stack)
+            }
+        }
     }
 }
 

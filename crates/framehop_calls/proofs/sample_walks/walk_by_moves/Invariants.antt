@@ -2,7 +2,7 @@ use Rattle.std.proofs.Common.{◌≡◌, ◌≤◌, length, take, drop, ◌-◌,
 use Rattle.framehop_unwinder.specs.IdViews.{has_both}
 use Rattle.framehop_calls.specs.SampleSteps.{KeepsModules}
 use Rattle.framehop_calls.specs.SampleWalks.{Passes, through, walk_in}
-use Rattle.framehop_calls.proofs.sample_walks.walk_in_sample.Given as goal
+use Rattle.framehop_calls.proofs.sample_walks.walk_by_moves.Given as goal
 
 -- the walk passed the frames that are written, and what is behind them is as it was
 abbrev pub invariant-loop-count : goal.invariant-loop-count

@@ -3,7 +3,7 @@ use Rattle.std.proofs.lemmas.List.{drop-drop, drop-set-lt, length-set, take_more
 use Rattle.framehop_calls.specs.SampleWalks.{Passes, through, walk_in}
 use Rattle.framehop_calls.proofs.Calls.{both_stay}
 use Rattle.framehop_calls.proofs.Passing.{passes_both}
-use Rattle.framehop_calls.proofs.sample_walks.walk_in_sample.Goals as goal
+use Rattle.framehop_calls.proofs.sample_walks.walk_by_moves.Goals as goal
 
 pub loop-count-preserved : goal.loop-count-preserved
 loop-count-preserved g c =
