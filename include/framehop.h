@@ -214,6 +214,13 @@ enum {
     FRAMEHOP_LOOKUP_SCAN = 2   /* by reading the section at each step */
 };
 
+/* By which rules the machine code of a module is read in first frames. */
+enum {
+    FRAMEHOP_CODE_PUBLISHED = 0, /* by those of framehop */
+    FRAMEHOP_CODE_KNOWN = 1,     /* by what is known of the code: ends of epilogs in PE files, and what __stub_helper has pushed */
+    FRAMEHOP_CODE_WAYS = 2       /* so, and by ways out of functions, where no table has the address and in functions of Mach-O files */
+};
+
 /* A file that is mapped in the profiled process. */
 typedef struct {
     uint64_t start;     /* the addresses in the process that it covers */
@@ -225,7 +232,7 @@ typedef struct {
     uint32_t lookup;             /* FRAMEHOP_LOOKUP_.. */
     uint32_t tables;             /* unless 0, a table of rules is made, by which steps parse nothing where a rule says them */
     uint32_t debug_frame_beside; /* unless 0, .debug_frame is used where .eh_frame has no FDE */
-    uint32_t reserved;           /* 0 */
+    uint32_t code_rules;         /* FRAMEHOP_CODE_..; ways need the section of code with its bytes */
 } framehop_module;
 
 /* Loads a module in an unwinder. The caller lends the bytes of its sections, as the top of this file says; the rest it has back. */

@@ -1,5 +1,6 @@
 //! Rules that are found in machine code, and lengths of its instructions.
 
+use crate::callers::rules_by_ways;
 use crate::detecting::Detecting;
 use crate::lengths::lengths_of_beginnings;
 use anyhow::{Context, Result, bail};
@@ -85,10 +86,12 @@ fn show_rules<A: Detecting>(
     Ok(())
 }
 
-// What is shown of a line: behind `lengths` the lengths of the beginnings of code, or else the rules in a case's.
+// What is shown of a line: behind `lengths` the lengths of the beginnings of code, behind `way` the rules of ways, or else the rules in a
+// case's.
 fn shown_of(alloc: Global, line: &str) -> Result<String> {
     match line.split_once(' ') {
         Some(("lengths", digits)) => lengths_of_beginnings(alloc, digits),
+        Some(("way", function)) => rules_by_ways(alloc, function),
         _ => Case::parse(alloc, line)?.show(alloc),
     }
 }

@@ -7,11 +7,13 @@
 //! - `stacks`, `flame`, `icicle`: stacks with their counts, as the boxes of each line or as a picture of all lines.
 //!   `scripts/flame-graphs` writes what a second reader finds.
 //! - `code`: machine code in hexadecimal digits, a case a line: the rules of prologues and epilogues, or behind `lengths` the length of
-//!   the instruction of x86_64 that each beginning of the code begins with, as `scripts/analysis-rows` and `scripts/x86-cases` have them.
+//!   the instruction of x86_64 that each beginning of the code begins with, as `scripts/analysis-rows` and `scripts/x86-cases` have them,
+//!   or behind `way` the rules of ways out of a function, as `scripts/way-cases` has them.
 //! - `instructions`: words of aarch64, a line each, for `scripts/ways-instructions`; `effects`: codes of x86_64, each of which begins
 //!   with an instruction, for `scripts/x86-lengths`; `ways`: places of functions of x86_64 behind their code, for `scripts/x86-ways`.
 #![tactic(auto)]
 
+mod callers;
 mod code;
 mod detecting;
 mod elf;

@@ -12,3 +12,4 @@ pub mod SectionsMade
 pub mod TruthfulLookups
 pub mod WalkEnds
 pub mod WalkValues
+mod WithoutWays

@@ -9,6 +9,8 @@ use Rattle.framehop_rows.specs.RowMeanings.{RowMeanings}
 use Rattle.framehop.specs.Coverage.{attempt_by, by_known, EvaluatesExpression}
 use Rattle.framehop.specs.Methods.{Method, UsesRule, UsesFde, UsesCodes, UsesNothing}
 use Rattle.framehop.specs.FormatMethods.{TableMethods, method_of}
+use Rattle.framehop.specs.WayAttempts.{way_at, way_or}
+use Rattle.framehop_code_ways.specs.Callers.{FirstRule}
 use Rattle.framehop_loads.specs.StepLimits.{StepLimits}
 use Rattle.framehop_loads.specs.UnwindData.{UnwindData}
 
@@ -21,29 +23,36 @@ attempt_by_method m limits first (UsesFde section address known) =
 attempt_by_method m limits first (UsesCodes caller) = Evaluates caller
 attempt_by_method m limits first UsesNothing = SaysNothing
 
--- What each format of unwind data means on an architecture: call frames, and other tables.
+-- What each format of unwind data means on an architecture, call frames and other tables, and what rule the first way out of a function
+-- has from a place of its code.
 pub record FormatMeanings (Rule Registers : Type 0) : Type 0 where
   pub rows : RowMeanings Rule Registers
   pub tables : TableMethods Rule Registers
+  pub ways : FirstRule Rule
 
--- an architecture by these two
-abbrev pub format_meanings : {Rule Registers : Type 0} → RowMeanings Rule Registers → TableMethods Rule Registers → FormatMeanings Rule Registers
-format_meanings rows tables = record { rows = rows; tables = tables }
+-- an architecture by these three
+abbrev pub format_meanings : {Rule Registers : Type 0} → RowMeanings Rule Registers → TableMethods Rule Registers → FirstRule Rule
+    → FormatMeanings Rule Registers
+format_meanings rows tables ways = record { rows = rows; tables = tables; ways = ways }
 
--- the attempt at a relative address by a module's data, in a first or a later frame
+-- the attempt at a relative address by a module's tables, in a first or a later frame
+abbrev pub attempt_by_tables : {Rule Registers : Type 0} → RowMeanings Rule Registers → TableMethods Rule Registers → StepLimits → UnwindData → ℕ
+    → Bool → Attempt Rule Registers
+attempt_by_tables rows tables limits given relative first = attempt_by_method rows limits first (method_of tables given relative first)
+
+-- the attempt by a module's data: by a way out of its function, if a first frame goes by one there, or else by its tables
 abbrev pub attempt_by_format : {Rule Registers : Type 0} → FormatMeanings Rule Registers → StepLimits → UnwindData → ℕ → Bool
     → Attempt Rule Registers
 attempt_by_format m limits given relative first =
-    attempt_by_method m.rows limits first (method_of m.tables given relative first)
+    way_or (way_at m.ways given relative first) (attempt_by_tables m.rows m.tables limits given relative first)
 
 -- other tables that say nothing
 abbrev pub no_tables : {Rule Registers : Type 0} → TableMethods Rule Registers
 no_tables = record { pe = λ file relative first. UsesNothing; compact = λ file relative first. Err FunctionHasNoInfo }
 
--- the same by call frames alone: by any other format nothing is said
+-- the attempt by call frames alone: by any other format nothing is said
 abbrev pub attempt : {Rule Registers : Type 0} → RowMeanings Rule Registers → StepLimits → UnwindData → ℕ → Bool → Attempt Rule Registers
-attempt m limits given relative first =
-    attempt_by_format (format_meanings m no_tables) limits given relative first
+attempt m limits given relative first = attempt_by_tables m no_tables limits given relative first
 
 -- the method takes a row that evaluates an expression; `meets` says which rows do
 abbrev pub EvaluatesByMethod : {Rule Registers : Type 0} → (Row ℕ → Type 0) → Limits → Vendor → Method Rule Registers → Type 0

@@ -18,3 +18,4 @@ pub mod TableMethods
 pub mod TruthfulLookups
 pub mod WalkLengths
 pub mod WalksX86_64
+pub mod WayAttempts

@@ -21,6 +21,8 @@ use Rattle.framehop_compact.specs.Unwound.{compact_x86_64}
 use Rattle.framehop_compact.specs.UnwoundAarch64.{compact_aarch64}
 use Rattle.framehop_pe.specs.PeAttempts.{Refuses}
 use Rattle.framehop_pe.specs.PeSteps.{attempt_x86_64}
+use Rattle.framehop_code_ways.specs.FirstRules as x86_64_ways
+use Rattle.framehop_code_ways.specs.FirstRulesAarch64 as aarch64_ways
 use Rattle.framehop.specs.Attempts.{AsksExpression, FormatMeanings, attempt_by_format, format_meanings}
 use Rattle.framehop.specs.TableMethods.{table_methods}
 use Rattle.framehop_loads.specs.StepLimits.{StepLimits}
@@ -33,11 +35,12 @@ meanings_by meaning fallback formats limits = meanings_of meaning fallback (atte
 
 -- what formats mean on x86_64
 abbrev pub formats_x86_64 : FormatMeanings UnwindRuleX86_64 UnwindRegsX86_64
-formats_x86_64 = format_meanings x86_64_rows.rows (table_methods attempt_x86_64 compact_x86_64)
+formats_x86_64 = format_meanings x86_64_rows.rows (table_methods attempt_x86_64 compact_x86_64) x86_64_ways.first_rule
 
 -- what they mean on aarch64, where those of PE files aren't read
 abbrev pub formats_aarch64 : FormatMeanings UnwindRuleAarch64 UnwindRegsAarch64
-formats_aarch64 = format_meanings aarch64_rows.rows (table_methods (λ file relative first. Refuses Aarch64Unsupported) compact_aarch64)
+formats_aarch64 =
+    format_meanings aarch64_rows.rows (table_methods (λ file relative first. Refuses Aarch64Unsupported) compact_aarch64) aarch64_ways.first_rule
 
 -- what steps on x86_64 go by
 abbrev pub meanings_x86_64 : StepLimits → Meanings UnwindData UnwindRuleX86_64 UnwindRegsX86_64

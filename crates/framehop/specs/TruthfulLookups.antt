@@ -1,5 +1,5 @@
 -- Modules with one section `.eh_frame`, each unwound by another lookup, and when the header of the section is truthful.
-use Rattle.std.specs.Prelude.{◌≡◌, ℕ, ◌+◌, Bool, List, true, Option, Some, Ok}
+use Rattle.std.specs.Prelude.{◌≡◌, ℕ, ◌+◌, Bool, List, true, Option, Some, Ok, None}
 use Rattle.std.specs.List.{AllPass, Contains}
 use Rattle.dwarf_frame_rows.specs.declared.base_addresses.BaseAddresses.{BaseAddresses}
 use Rattle.dwarf_frame_rows.specs.FrameSection.{FrameSection}
@@ -36,7 +36,7 @@ frames_with h bases lookup = placed (EhFrame h.section) lookup bases h.base
 
 -- a module with this section alone, whose FDEs are found by a lookup
 abbrev pub data_with : HeadedSection → BaseAddresses → Lookup → UnwindData
-data_with h bases lookup = record { format = CallFrames (alone (frames_with h bases lookup)); bases = bases; base_svma = h.base }
+data_with h bases lookup = record { format = CallFrames (alone (frames_with h bases lookup)); bases = bases; base_svma = h.base; code = None }
 
 -- a module that is unwound by the header
 abbrev pub headed_data : HeadedSection → UnwindData

@@ -1,7 +1,8 @@
 //! Architectures, if modules are unwound by their sections.
 
-ghost use Rattle.std.specs.Prelude.{refl};
+ghost use Rattle.std.specs.Prelude.{◌≡◌, IfSome, refl};
 ghost use Rattle.framehop.specs.Attempts.{AsksExpression, format_meanings};
+ghost use Rattle.framehop.specs.WayAttempts.{way_at};
 ghost use Rattle.framehop.specs.StepMeanings.{meanings_by};
 ghost use Rattle.framehop.specs.TableMethods.{table_methods};
 
@@ -10,6 +11,7 @@ use crate::compact::unwind_frame_by_compact;
 use crate::failures::failure_of;
 use crate::pe::unwind_frame_by_pe;
 use framehop_analysis::InstructionAnalysis;
+use framehop_code_ways::{WayUnwinding, caller_by_way_in_text};
 use framehop_compact::CompactUnwindInfoUnwinding;
 use framehop_errors::UnwinderError;
 use framehop_loads::{
@@ -30,11 +32,31 @@ pub trait Unwinding: DwarfUnwinding
     + InstructionAnalysis
     + CompactUnwindInfoUnwinding
     + PeUnwinding
-    + Tabulating {}
+    + Tabulating
+    + WayUnwinding {}
 
 impl Unwinding for ArchX86_64 {}
 
 impl Unwinding for ArchAarch64 {}
+
+// The rule of a way out of the function of a first frame at a relative address, where the module's load asks for it and its tables leave
+// the address to that.
+#[inline(always)]
+fn rule_of_way<A: Unwinding, D: SectionBytes>(
+    unwind_data: &ModuleUnwindData<D>,
+    relative_address: u32,
+    is_first_frame: bool,
+) -> Option<A::UnwindRule>
+    ensures rule { result ≡ way_at A.first_rule unwind_data.now relative_address is_first_frame }
+    ensures valid { IfSome result A.UnwindRule.is_valid }
+{
+    if !is_first_frame {
+        return None;
+    }
+    let code = unwind_data.code()?;
+    let bounds = unwind_data.way_bounds::<A>(relative_address)?;
+    caller_by_way_in_text::<A>(code, bounds, relative_address.into())
+}
 
 /// The architecture `A`, if modules are unwound by their sections. Sections are values of `D`; `P` says
 /// whether a step may allocate.
@@ -57,7 +79,7 @@ impl<A: Unwinding, D: SectionBytes + Drop, P: AllocationPolicy> ModuleUnwinding
     type UnwindContext = DwarfUnwindContext<P>;
 
     ghost meanings = { meanings_by A.UnwindRule.meaning A.UnwindRule.fallback
-        (format_meanings A.rows (table_methods A.pe_attempt A.compact)) P.limits };
+        (format_meanings A.rows (table_methods A.pe_attempt A.compact) A.first_rule) P.limits };
 
     ghost meaning_is = { refl };
 
@@ -66,7 +88,7 @@ impl<A: Unwinding, D: SectionBytes + Drop, P: AllocationPolicy> ModuleUnwinding
     ghost takes_memory = { P.may_allocate };
 
     ghost asks_memory = { AsksExpression A.MeetsExpression
-        (format_meanings A.rows (table_methods A.pe_attempt A.compact)) P.limits };
+        (format_meanings A.rows (table_methods A.pe_attempt A.compact) A.first_rule) P.limits };
 
     fn unwind_context(alloc: Global) -> Result<DwarfUnwindContext<P>, AllocError> {
         DwarfUnwindContext::new(alloc)
@@ -80,6 +102,9 @@ impl<A: Unwinding, D: SectionBytes + Drop, P: AllocationPolicy> ModuleUnwinding
         unwind_context: &mut DwarfUnwindContext<P>,
         read_stack: &mut F,
     ) -> Result<UnwindResult<A::UnwindRule>, UnwindFailure> {
+        if let Some(rule) = rule_of_way::<A, D>(unwind_data, relative_address, is_first_frame) {
+            return Ok(UnwindResult::ExecRule(rule));
+        }
         match unwind_data.format() {
             ModuleFormat::CallFrames(frames) => unwind_frame_by_call_frames::<A, P, D, F>(
                 frames,

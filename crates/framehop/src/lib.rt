@@ -23,6 +23,9 @@ pub use dwarf::DwarfUnwinder;
 pub use dwarf_frame_entries::BaseAddresses;
 pub use framehop_analysis::InstructionAnalysis;
 pub use framehop_code_rules::CodeRules;
+pub use framehop_code_ways::{
+    Bounds, BranchesOut, Code, CodeRange, WayUnwinding, caller_by_way, caller_by_way_in_text,
+};
 pub use framehop_compact::{
     CompactUnwindInfoUnwinder, CompactUnwindInfoUnwinding, CuiUnwindResult, Function, TextBytes,
 };

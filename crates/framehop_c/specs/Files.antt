@@ -1,6 +1,7 @@
 -- Files that are mapped in a profiled process, and what their loads do.
-use Rattle.std.specs.Prelude.{ℕ, ◌≡◌, [], not, ◌==◌, Option, Some, None, option_map, if◌then◌else◌}
-use Rattle.framehop_code_rules.specs.declared.CodeRules.TheVariants.{Published}
+use Rattle.std.specs.Prelude.{ℕ, ◌≡◌, [], not, ◌==◌, Option, Some, None, option_and_then, option_map, if◌then◌else◌}
+use Rattle.framehop_code_rules.specs.declared.CodeRules.{CodeRules}
+use Rattle.framehop_code_rules.specs.declared.CodeRules.TheVariants.{Known, Published, Ways}
 use Rattle.framehop_unwinder.specs.Modules.{Loaded}
 use Rattle.framehop_loads.specs.UnwindData.{UnwindData, unwind_data_with}
 use Rattle.framehop_loads.specs.declared.load_options.FdeLookup.{FdeLookup}
@@ -21,14 +22,24 @@ abbrev pub lookup_numbered : ℕ → Option FdeLookup
 lookup_numbered number =
     if number == 0 then Some Auto else (if number == 1 then Some Index else (if number == 2 then Some Scan else None))
 
--- what a load asks for on an architecture, if its lookup has a number
-abbrev pub options_of : TableArch → MappedFile → Option LoadOptions
-options_of on file = option_map (λ lookup. record {
+-- the rules of code of a number
+abbrev pub code_rules_numbered : ℕ → Option CodeRules
+code_rules_numbered number =
+    if number == 0 then Some Published else (if number == 1 then Some Known else (if number == 2 then Some Ways else None))
+
+-- what a load asks for on an architecture, by a lookup and rules of code
+abbrev pub options_by : TableArch → MappedFile → FdeLookup → CodeRules → LoadOptions
+options_by on file lookup code_rules = record {
   lookup = lookup;
   tables = if file.tables == 0 then None else Some on;
   debug_frame_beside = not (file.debug_frame_beside == 0);
-  code_rules = Published;
-}) (lookup_numbered file.lookup)
+  code_rules = code_rules;
+}
+
+-- .. if those are of these numbers
+abbrev pub options_of : TableArch → MappedFile → Option LoadOptions
+options_of on file =
+    option_and_then (λ lookup. option_map (options_by on file lookup) (code_rules_numbered file.code_rules)) (lookup_numbered file.lookup)
 
 -- the module of a file, as its load asks for it: without a name
 abbrev pub module_of : MappedFile → LoadOptions → Loaded UnwindData

@@ -2,7 +2,7 @@
 
 ghost use Rattle.std.specs.Prelude.{◌≡◌};
 ghost use Rattle.framehop_calls.specs.Sections.{sections_listed, sections_of};
-ghost use Rattle.framehop_c.specs.Files.{lookup_numbered, options_of};
+ghost use Rattle.framehop_c.specs.Files.{code_rules_numbered, lookup_numbered, options_of};
 
 use framehop::{CodeRules, FdeLookup, LoadOptions, TableArch};
 use framehop_calls::{FileSections, Section};
@@ -19,7 +19,7 @@ pub struct MappedFile<'a> {
     pub lookup: u32,
     pub tables: u32,
     pub debug_frame_beside: u32,
-    pub reserved: u32,
+    pub code_rules: u32,
 }
 
 // The lookup of a number.
@@ -30,6 +30,18 @@ fn lookup_numbered(number: u32) -> Option<FdeLookup>
         0 => Some(FdeLookup::Auto),
         1 => Some(FdeLookup::Index),
         2 => Some(FdeLookup::Scan),
+        _ => None,
+    }
+}
+
+// The rules of code of a number.
+fn code_rules_numbered(number: u32) -> Option<CodeRules>
+    ensures { result ≡ code_rules_numbered number }
+{
+    match number {
+        0 => Some(CodeRules::Published),
+        1 => Some(CodeRules::Known),
+        2 => Some(CodeRules::Ways),
         _ => None,
     }
 }
@@ -45,16 +57,17 @@ impl<'a> MappedFile<'a> {
         }
     }
 
-    /// What its load asks for on an architecture, if the lookup has a number.
+    /// What its load asks for on an architecture, if the numbers of the lookup and of the rules of code are such.
     pub(crate) fn options(&self, on: TableArch) -> Option<LoadOptions>
         ensures { result ≡ options_of on self.now }
     {
         let lookup = lookup_numbered(self.lookup)?;
+        let code_rules = code_rules_numbered(self.code_rules)?;
         Some(LoadOptions {
             lookup,
             tables: if self.tables == 0 { None } else { Some(on) },
             debug_frame_beside: self.debug_frame_beside != 0,
-            code_rules: CodeRules::Published,
+            code_rules,
         })
     }
 }

@@ -9,6 +9,9 @@ pub enum CodeRules {
     /// What the code is known to do: epilogs of PE files end where Windows takes them to end, and the part of `__stub_helper`
     /// that stubs share has pushed its word once its `push` is executed. A first frame there has the caller that was called from.
     Known,
+    /// As `Known`, and by ways out: a first frame in code that no table covers, or in a function of a Mach-O file, goes by what the code
+    /// from there up to a return does to the stack pointer, the frame pointer and the return address, if that has an unwind rule.
+    Ways,
 }
 
 impl Default for CodeRules {

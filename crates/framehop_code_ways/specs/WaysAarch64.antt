@@ -1,34 +1,10 @@
--- The rule of a way on aarch64 from a place of a text, and where it leads.
-use Rattle.std.specs.Prelude.{ℕ, ◌-◌, ◌≤◌, Bool, true, false, if◌then◌else◌, List, length, slice_get, Option, None, option_and_then}
-use Rattle.std.specs.Option.{option_map_or}
+-- Where a way on aarch64 from a place of a text leads.
+use Rattle.std.specs.Prelude.{ℕ, ◌≤◌, List, length}
 use Rattle.framehop_rules.specs.declared.aarch64.unwind_rule.UnwindRuleAarch64.{UnwindRuleAarch64}
-use Rattle.framehop_ways.specs.FirstWay.{way_in}
-use Rattle.framehop_ways.specs.WayRules.{rule_of_way}
 use Rattle.framehop_ways.specs.Ways.{IsWay}
 use Rattle.framehop_ways.specs.declared.executed.Bounds.{Bounds}
 use Rattle.framehop_ways.specs.declared.executed.Executed.{Executed}
-use Rattle.framehop_ways.specs.declared.instruction.Instruction.{Instruction}
-use Rattle.framehop_ways.specs.declared.instruction.Instruction.TheVariants.{Branch}
 use Rattle.framehop_ways_returns.specs.WayReturns.{WayReturns}
-use Rattle.framehop_code_ways.specs.declared.way.BranchesOut.{BranchesOut}
-use Rattle.framehop_code_ways.specs.declared.way.BranchesOut.TheVariants.{TailCalls, Unknown}
-
--- Whether the last instruction is a branch to an address that its code says. A way ends by it only where that is no place of the text.
-abbrev pub is_branch : Instruction → Bool
-is_branch (Branch distance) = true
-is_branch other = false
-
-abbrev pub ends_by_branch : List Executed → Bool
-ends_by_branch way = option_map_or (λ one. is_branch one.instruction) (slice_get way (length way - 1)) false
-
-abbrev pub is_unknown_end : BranchesOut → List Executed → Bool
-is_unknown_end TailCalls way = false
-is_unknown_end Unknown way = ends_by_branch way
-
--- The rule of the first way from a place.
-abbrev pub first_rule : BranchesOut → List ℕ → Bounds → ℕ → Option UnwindRuleAarch64
-first_rule branches_out text bounds at =
-    option_and_then (λ way. if is_unknown_end branches_out way then None else rule_of_way way) (way_in 128 text bounds at)
 
 -- A way out of the function, of at most 128 instructions, is spelled in the text from the place on, and the caller that the rule gives to a
 -- first frame there is where the machine is once it has executed the way and returned.

@@ -1,6 +1,7 @@
 //! Ways on aarch64.
 ghost use Rattle.std.specs.Prelude.{◌≡◌};
-ghost use Rattle.framehop_code_ways.specs.WaysAarch64.{IsLedTo, ends_by_branch, first_rule, is_unknown_end};
+ghost use Rattle.framehop_code_ways.specs.FirstRulesAarch64.{ends_by_branch, first_rule, is_unknown_end};
+ghost use Rattle.framehop_code_ways.specs.WaysAarch64.{IsLedTo};
 
 use crate::way::{BranchesOut, WayUnwinding};
 use framehop_rules::aarch64::{ArchAarch64, UnwindRuleAarch64};

@@ -1,6 +1,7 @@
 //! Ways on x86_64.
 ghost use Rattle.std.specs.Prelude.{◌≡◌};
-ghost use Rattle.framehop_code_ways.specs.Ways.{IsLedTo, ends_by_branch, first_rule, is_unknown_end};
+ghost use Rattle.framehop_code_ways.specs.FirstRules.{ends_by_branch, first_rule, is_unknown_end};
+ghost use Rattle.framehop_code_ways.specs.Ways.{IsLedTo};
 
 use crate::way::{BranchesOut, WayUnwinding};
 use framehop_rules::x86_64::{ArchX86_64, UnwindRuleX86_64};

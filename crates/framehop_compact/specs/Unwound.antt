@@ -4,7 +4,7 @@ use Rattle.std.specs.List.{starts_with}
 use Rattle.framehop_errors.specs.declared.compact.CompactUnwindInfoUnwinderError.TheVariants.{FunctionHasNoInfo, BadOpcodeKind}
 use Rattle.framehop_errors.specs.declared.compact.CompactUnwindInfoUnwinderError.TheVariants as error
 use Rattle.framehop_code_rules.specs.declared.CodeRules.{CodeRules}
-use Rattle.framehop_code_rules.specs.declared.CodeRules.TheVariants.{Published, Known}
+use Rattle.framehop_code_rules.specs.declared.CodeRules.TheVariants.{Published, Known, Ways}
 use Rattle.framehop_rules.specs.declared.x86_64.unwind_rule.UnwindRuleX86_64.{UnwindRuleX86_64}
 use Rattle.framehop_rules.specs.declared.x86_64.unwind_rule.UnwindRuleX86_64.TheVariants.{JustReturn, OffsetSp, UseFramePointer}
 use Rattle.framehop_analysis.specs.Epilogue.{IsEpilogueRule}
@@ -57,6 +57,7 @@ unwound function is_first offset text =
 -- Where the code that stubs share has pushed its word: after its `push r11`, which stands at 7. The original has it there already.
 abbrev pub helper_has_pushed : CodeRules → ℕ
 helper_has_pushed Known = 9
+helper_has_pushed Ways = 9
 helper_has_pushed Published = 7
 
 -- The rule in `__stub_helper`. Linkers begin it with code that all stubs share: `lea r11`, `push r11`, a jump and a `nop`, of 7, 2, 6

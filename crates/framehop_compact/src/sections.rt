@@ -69,8 +69,8 @@ fn in_range(range: (u32, u32), address: u32) -> bool
 }
 
 impl<'a> CompactSections<'a> {
-    // Where an address is. `__unwind_info` doesn't describe the stubs.
-    pub(crate) fn place_of(&self, address: u32) -> Result<Place, CompactUnwindInfoUnwinderError>
+    /// Where an address is. `__unwind_info` doesn't describe the stubs. Fails with `BadFormat` if its tables can't be read.
+    pub fn place_of(&self, address: u32) -> Result<Place, CompactUnwindInfoUnwinderError>
         ensures place { result ≡ place_of (file_of self.now) address }
         ensures contains { IfOk result (λ place. IfInFunction place (λ function. ContainsAddress function address)) }
     {

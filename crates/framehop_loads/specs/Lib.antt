@@ -6,3 +6,4 @@ pub mod TableSizes
 pub mod UnwindData
 pub mod UnwindDataViews
 pub mod UnwindKinds
+pub mod WayBounds

@@ -1,14 +1,16 @@
 -- The unwind data of a module: its format, and the addresses that its numbers are relative to.
-use Rattle.std.specs.Prelude.{ℕ, ◌-◌, ◌^◌, ◌&&◌, codes, nat_le, nat_lt, if◌then◌else◌, List, Option, Some, None, IfSome, option_and_then, option_map}
+use Rattle.std.specs.Prelude.{ℕ, ◌-◌, ◌^◌, ◌&&◌, Bool, true, false, codes, nat_le, nat_lt, if◌then◌else◌, List, Option, Some, None, IfSome, option_and_then, option_map}
 use Rattle.std.specs.declared.ops.Range.{Range}
 use Rattle.dwarf_frame_rows.specs.declared.base_addresses.BaseAddresses.{BaseAddresses}
 use Rattle.framehop_modules.specs.Sections.{Sections}
-use Rattle.framehop_modules.specs.Chosen.{chosen_sections, base_svmas}
+use Rattle.framehop_modules.specs.Chosen.{chosen_sections, base_svmas, text_section}
 use Rattle.framehop_modules.specs.declared.module_sections.BaseSvmas.{BaseSvmas}
 use Rattle.framehop_modules.specs.declared.module_sections.ModuleSections.{ModuleSections}
 use Rattle.framehop_modules.specs.declared.module_sections.ModuleSections.TheVariants.{CompactUnwindInfoAndEhFrame, PeUnwindInfo, EhFrame, DebugFrame, NoSections}
 use Rattle.framehop_modules.specs.declared.module_sections.SectionData.{SectionData}
+use Rattle.framehop_code.specs.Places.{CodeBytes}
 use Rattle.framehop_code_rules.specs.declared.CodeRules.{CodeRules}
+use Rattle.framehop_code_rules.specs.declared.CodeRules.TheVariants as rules
 use Rattle.framehop_compact.specs.CompactFiles.{Code, CompactFile}
 use Rattle.framehop_pe_codes.specs.Sections.{PeFile, PeSection}
 use Rattle.framehop_index.specs.FdeLookups.{Lookup, ByHeader, PlacedFrames, placed}
@@ -26,12 +28,13 @@ pub data ModuleFormat : Type 0 where
   Compact : CompactFile → (eh_frame : Option (List ℕ)) → ModuleFormat
   NoFormat : ModuleFormat
 
--- The unwind data of a module: its format, the addresses that pointers in its sections are relative to, and the module's base as the
--- file states it.
+-- The unwind data of a module: its format, the addresses that pointers in its sections are relative to, the module's base as the file
+-- states it, and its code at addresses relative to the base, if first frames go by ways out of functions.
 pub record UnwindData : Type 0 where
   pub format : ModuleFormat
   pub bases : BaseAddresses
   pub base_svma : ℕ
+  pub code : Option CodeBytes
 
 -- the addresses that pointers are relative to, by the starts of sections: in `.eh_frame_hdr`, `DW_EH_PE_datarel` is relative to that
 -- section itself, in the others to the global offset table
@@ -116,12 +119,45 @@ format_with options bases base debug_frame NoSections = NoFormat
 abbrev pub debug_frame_of : LoadOptions → Sections → Option (List ℕ)
 debug_frame_of options s = if options.debug_frame_beside then s.section_data (codes ".debug_frame") else None
 
+-- first frames go by ways out of functions
+abbrev pub goes_by_ways : CodeRules → Bool
+goes_by_ways rules.Published = false
+goes_by_ways rules.Known = false
+goes_by_ways rules.Ways = true
+
+-- code as bytes at addresses
+abbrev pub bytes_of_code : Code → CodeBytes
+bytes_of_code code = record { begin = code.start; bytes = code.bytes }
+
+abbrev pub bytes_of_section : PeSection → CodeBytes
+bytes_of_section section = record { begin = section.rva_range.start; bytes = section.bytes }
+
+-- the section of code, if it starts at an address that is relative to the base
+abbrev pub text_of : (base : ℕ) → Sections → Option Code
+text_of base s = option_and_then (code_in base) (text_section s)
+
+-- the code of a module: that which its tables have with them, or else the section of code
+abbrev pub code_with : ModuleFormat → (text : Option Code) → Option CodeBytes
+code_with (CallFrames frames) text = option_map bytes_of_code text
+code_with (Pe file) text = option_map bytes_of_section file.text
+code_with (Compact file eh_frame) text = option_map bytes_of_code file.text
+code_with NoFormat text = option_map bytes_of_code text
+
+-- .. if first frames go by it
+abbrev pub code_by : CodeRules → ModuleFormat → (text : Option Code) → Option CodeBytes
+code_by code_rules format text = if goes_by_ways code_rules then code_with format text else None
+
+-- the format of a module with these sections, as its load asks for them
+abbrev pub format_of : LoadOptions → Sections → ModuleFormat
+format_of options s = format_with options (bases_of (base_svmas s)) s.base_svma (debug_frame_of options s) (chosen_sections s)
+
 -- the unwind data of a module with these sections, as its load asks for them
 abbrev pub unwind_data_with : LoadOptions → Sections → UnwindData
 unwind_data_with options s = record {
-  format = format_with options (bases_of (base_svmas s)) s.base_svma (debug_frame_of options s) (chosen_sections s);
+  format = format_of options s;
   bases = bases_of (base_svmas s);
   base_svma = s.base_svma;
+  code = code_by options.code_rules (format_of options s) (text_of s.base_svma s);
 }
 
 -- the unwind data as the original takes them

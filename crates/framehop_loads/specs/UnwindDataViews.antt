@@ -8,6 +8,7 @@ use Rattle.framehop_modules.specs.Chosen.{chosen_sections}
 use Rattle.framehop_modules.specs.ChosenViews.{section_bytes, sections_bytes}
 use Rattle.framehop_modules.specs.Sections.{Sections}
 use Rattle.framehop_modules.specs.declared.module_sections.ModuleSections.{ModuleSections}
+use Rattle.framehop_modules.specs.declared.module_sections.ModuleSections.TheVariants as sections
 use Rattle.framehop_modules.specs.declared.module_sections.SectionData.{SectionData}
 use Rattle.framehop_pe_codes.specs.Sections.{PeFile}
 use Rattle.framehop_loads.specs.UnwindData as data_
@@ -43,3 +44,11 @@ AreChosen content options s taken debug_frame =
     (bases : BaseAddresses) (base : ℕ)
     → data_.format_with options bases base (option_map content debug_frame) (sections_bytes content taken)
     ≡ data_.format_with options bases base (data_.debug_frame_of options s) (chosen_sections s)
+
+-- This holds, unless sections were taken that have the code with them.
+abbrev pub UnlessWithTables : {D : Type 0} → ModuleSections D → Type 0 → Type 0
+UnlessWithTables (sections.CompactUnwindInfoAndEhFrame unwind_info eh_frame stubs stub_helper text) P = Unit {0}
+UnlessWithTables (sections.PeUnwindInfo pdata rdata xdata text) P = Unit {0}
+UnlessWithTables (sections.EhFrame eh_frame eh_frame_hdr) P = P
+UnlessWithTables (sections.DebugFrame debug_frame) P = P
+UnlessWithTables sections.NoSections P = P

@@ -2,10 +2,10 @@
 
 ghost use Rattle.std.specs.Prelude.{◌≡◌, ◌↔◌, IfOk, IfSome, IfNone, IsSome, Some, option_map};
 ghost use Rattle.std.specs.Box.{box_value};
-ghost use Rattle.framehop_index.specs.FdeLookups.{fde_for};
+ghost use Rattle.framehop_index.specs.FdeLookups.{covers, fde_for};
 ghost use Rattle.framehop_tables.specs.Covered.{SaysValid};
 ghost use Rattle.framehop_loads.specs.ArchTables.{IsTabulatedFor, SaysAsIndexOf, arch_of};
-ghost use Rattle.framehop_loads.specs.CallFrames.{frames_for};
+ghost use Rattle.framehop_loads.specs.CallFrames.{frames_for, frames_used};
 ghost use Rattle.framehop_loads.specs.LoadOptions.{table_on};
 ghost use Rattle.framehop_loads.specs.TableSizes.{IsSizeOf};
 
@@ -111,6 +111,19 @@ impl<D: SectionBytes> CallFrames<D> {
         match &self.beside {
             Some(beside) => Some(beside),
             None => None,
+        }
+    }
+
+    // Whether a relative address is in the FDE that is used there.
+    pub(crate) fn covers(&self, relative_address: u32) -> bool
+        ensures { result ≡ covers (frames_used self.now relative_address) relative_address }
+    {
+        if self.main.covering_fde(relative_address).is_some() {
+            return true;
+        }
+        match &self.beside {
+            Some(beside) => beside.covering_fde(relative_address).is_some(),
+            None => false,
         }
     }
 

@@ -1,36 +1,27 @@
 //! Mach-O files with compact unwind info, as steps take it.
 
-ghost use Rattle.std.specs.Prelude.{◌≡◌, option_and_then, option_map};
+ghost use Rattle.std.specs.Prelude.{◌≡◌, option_map};
+ghost use Rattle.framehop_code.specs.Places as places;
 ghost use Rattle.framehop_compact.specs.CompactFiles.{code_of, file_of};
 ghost use Rattle.framehop_compact.specs.CompactResults.{HasValidCuiRule};
 ghost use Rattle.framehop_compact.specs.CompactSteps.{compact_step};
-ghost use Rattle.framehop_loads.specs.UnwindData.{code_in, stub_range};
-ghost use Rattle.framehop_loads.specs.UnwindDataViews.{compact_taken, taken_bytes};
+ghost use Rattle.framehop_compact.specs.Places.{place_of};
+ghost use Rattle.framehop_loads.specs.UnwindData.{bytes_of_code, stub_range};
+ghost use Rattle.framehop_loads.specs.UnwindDataViews.{compact_taken};
+ghost use Rattle.framehop_loads.specs.WayBounds.{bounds_in, function_range};
 
-use crate::relative::{relative_range, relative_to};
+use crate::code::{CodeAt, code_in, lent};
+use crate::relative::relative_range;
+use framehop_code::{Code, CodeRange};
 use framehop_code_rules::CodeRules;
 use framehop_compact::{
-    CompactUnwindInfoUnwinder, CompactUnwindInfoUnwinding, CuiUnwindResult, TextBytes,
+    CompactUnwindInfoUnwinder, CompactUnwindInfoUnwinding, CuiUnwindResult, Function, Place,
+    TextBytes,
 };
 use framehop_errors::CompactUnwindInfoUnwinderError;
 use framehop_modules::{SectionBytes, SectionData};
 use std::marker::Model;
 use std::ops::Range;
-
-// Code, and its first address relative to the module's base.
-#[derive(Drop)]
-struct CodeAt<D: SectionBytes> {
-    start: u32,
-    bytes: D,
-}
-
-impl<D: SectionBytes> Model for CodeAt<D> {
-    ghost use Rattle.framehop_compact.specs.CompactFiles.{Code};
-
-    ghost Value = { Code };
-
-    ghost view = { λ given. record { start = given.start; bytes = D.content given.bytes } };
-}
 
 /// A Mach-O file with compact unwind info.
 #[derive(Drop)]
@@ -78,27 +69,22 @@ fn stub_range(base_svma: u64, svma_range: Option<Range<u64>>) -> (u32, u32)
     }
 }
 
-// The code of a section with its first address relative to a base, if it fits.
-fn code_in<D: SectionBytes + Drop>(
-    base_svma: u64,
-    section: Option<SectionData<D>>,
-) -> Option<CodeAt<D>>
-    ensures { result ≡ option_and_then (code_in base_svma) (taken_bytes D.content section) }
+// The code of a function.
+fn function_range(function: Function) -> CodeRange
+    ensures { result ≡ function_range function }
 {
-    let section = section?;
-    let start = relative_to(base_svma, section.svma_range.start)?;
-    Some(CodeAt {
-        start,
-        bytes: section.bytes,
-    })
+    CodeRange {
+        begin: function.start_address.into(),
+        end: function.end_address.into(),
+    }
 }
 
 // Code that is lent, if there is some.
-fn lent<D: SectionBytes>(code: &Option<CodeAt<D>>) -> Option<TextBytes<'_>>
+fn text_of<D: SectionBytes>(code: &Option<CodeAt<D>>) -> Option<TextBytes<'_>>
     ensures { option_map code_of result ≡ code.now }
 {
     match code {
-        Some(code) => Some(TextBytes::new(code.start, code.bytes.bytes())),
+        Some(code) => Some(code.text_bytes()),
         None => None,
     }
 }
@@ -134,7 +120,7 @@ impl<D: SectionBytes> CompactModule<D> {
         ensures { file_of result.sections ≡ self.now }
     {
         let unwind_info = self.unwind_info.bytes();
-        let text = lent(&self.text);
+        let text = text_of(&self.text);
         let unwinder = if self.increasing {
             CompactUnwindInfoUnwinder::new_increasing(
                 unwind_info,
@@ -159,5 +145,26 @@ impl<D: SectionBytes> CompactModule<D> {
     {
         self.unwinder::<A>()
             .unwind_frame(relative_address, is_first_frame)
+    }
+
+    /// The code of the file, at addresses relative to its base.
+    pub(crate) fn code(&self) -> Option<Code<'_>>
+        ensures { option_map places.code_of result ≡ option_map bytes_of_code self.now.text }
+    {
+        lent(&self.text)
+    }
+
+    /// The bounds of the code around a relative address of a first frame, unless that is in stubs.
+    pub(crate) fn way_bounds<A: CompactUnwindInfoUnwinding>(
+        &self,
+        relative_address: u32,
+    ) -> Option<CodeRange>
+        ensures { result ≡ bounds_in (place_of self.now relative_address) }
+    {
+        match self.unwinder::<A>().sections.place_of(relative_address) {
+            Ok(Place::Stubs) | Ok(Place::StubHelper(_)) => None,
+            Ok(Place::Function(function)) => Some(function_range(function)),
+            Ok(Place::NoFunction) | Err(_) => Some(CodeRange::everywhere()),
+        }
     }
 }

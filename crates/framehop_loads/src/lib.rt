@@ -3,6 +3,7 @@
 #![tactic(auto)]
 
 mod call_frames;
+mod code;
 mod compact;
 mod context;
 mod load_options;

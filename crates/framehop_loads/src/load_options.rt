@@ -34,7 +34,8 @@ pub struct LoadOptions {
     /// compiled without asynchronous unwind tables and linked with start files that have them: by `.debug_frame` at an address that its
     /// FDE contains and that of `.eh_frame` doesn't. By default `false`.
     pub debug_frame_beside: bool,
-    /// By which rules the machine code of a module with compact unwind info or of a PE file is read. By default `Published`.
+    /// By which rules the machine code of the module is read in first frames. `Known` is for modules with compact unwind info and PE files;
+    /// `Ways` is for all, and needs the section of code. By default `Published`.
     pub code_rules: CodeRules,
 }
 

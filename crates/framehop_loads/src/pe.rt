@@ -1,15 +1,17 @@
 //! PE files: their unwind data, as steps take it.
 
-ghost use Rattle.std.specs.Prelude.{◌≡◌, IsTrue, option_and_then, option_map};
+ghost use Rattle.std.specs.Prelude.{◌≡◌, IsTrue, is_some, option_and_then, option_map};
+ghost use Rattle.framehop_code.specs.Places as places;
 ghost use Rattle.framehop_pe_codes.specs.Sections.{section_of};
-ghost use Rattle.framehop_pe.specs.Rows.{IsIncreasing};
-ghost use Rattle.framehop_loads.specs.UnwindData.{pe_section};
+ghost use Rattle.framehop_pe.specs.Rows.{IsIncreasing, first_row};
+ghost use Rattle.framehop_loads.specs.UnwindData.{bytes_of_section, pe_section};
 ghost use Rattle.framehop_loads.specs.UnwindDataViews.{pe_file_taken, taken_bytes};
 
 use crate::relative::relative_range;
+use framehop_code::Code;
 use framehop_code_rules::CodeRules;
 use framehop_modules::{SectionBytes, SectionData};
-use framehop_pe::{DataAtRvaRange, pdata_is_increasing};
+use framehop_pe::{DataAtRvaRange, pdata_is_increasing, pdata_row};
 use std::marker::Model;
 use std::ops::Range;
 
@@ -153,5 +155,25 @@ impl<D: SectionBytes> PeModule<D> {
         ensures { result ≡ self.now.code_rules }
     {
         self.code_rules
+    }
+
+    /// The code of the file, at addresses relative to its base.
+    pub(crate) fn code(&self) -> Option<Code<'_>>
+        ensures { option_map places.code_of result ≡ option_map bytes_of_section self.now.text }
+    {
+        match &self.text {
+            Some(text) => Some(Code {
+                begin: text.rva_range.start.into(),
+                bytes: text.bytes.bytes(),
+            }),
+            None => None,
+        }
+    }
+
+    /// Whether a row of the function table has a relative address.
+    pub(crate) fn has_row(&self, relative_address: u32) -> bool
+        ensures { result ≡ is_some (first_row self.now.pdata relative_address) }
+    {
+        pdata_row(self.pdata.bytes(), self.increasing, relative_address).is_some()
     }
 }

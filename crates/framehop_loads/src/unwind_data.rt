@@ -1,17 +1,23 @@
 //! The unwind data of a module.
 
 ghost use Rattle.std.specs.Prelude.{◌≡◌, IfOk, option_map};
-ghost use Rattle.framehop_modules.specs.ChosenViews.{sections_bytes};
+ghost use Rattle.framehop_code.specs.Places.{code_of};
+ghost use Rattle.framehop_modules.specs.ChosenViews.{LeavesText, sections_bytes};
 ghost use Rattle.framehop_index.specs.SectionTypes.{frame_section_bytes};
 ghost use Rattle.framehop_loads.specs.LoadOptions.{as_original};
 ghost use Rattle.framehop_loads.specs.UnwindData.{bases_of, debug_frames, format_with, frames_with, unwind_data_with};
 ghost use Rattle.framehop_loads.specs.UnwindDataViews.{AreChosen, format_view};
+ghost use Rattle.framehop_loads.specs.WayBounds.{unless_covered, way_bounds};
 
 use crate::call_frames::CallFrames;
+use crate::code::{CodeAt, goes_by_ways, lent, text_beside};
 use crate::compact::CompactModule;
 use crate::load_options::{FdeLookup, LoadOptions};
 use crate::pe::PeModule;
 use dwarf_frame_entries::BaseAddresses;
+use framehop_code::{Code, CodeRange};
+use framehop_code_rules::CodeRules;
+use framehop_compact::CompactUnwindInfoUnwinding;
 use framehop_index::{SectionFrames, UnwindSectionType};
 use framehop_modules::{BaseSvmas, ModuleSectionInfo, ModuleSections, SectionBytes};
 use std::alloc::{AllocError, Global};
@@ -31,16 +37,19 @@ pub enum ModuleFormat<D: SectionBytes> {
 }
 
 /// The unwind data of a module: what it is unwound by, the addresses that pointers in its sections are
-/// relative to, and the module's base as the file states it.
+/// relative to, the module's base as the file states it, and its code, if first frames go by ways out of functions.
 #[derive(Drop)]
 pub struct ModuleUnwindData<D: SectionBytes> {
     format: ModuleFormat<D>,
     bases: BaseAddresses,
     base_svma: u64,
+    code_rules: CodeRules,
+    // The section of code, if the tables have none with them.
+    text: Option<CodeAt<D>>,
 }
 
 impl<D: SectionBytes> Model for ModuleUnwindData<D> {
-    ghost use Rattle.framehop_loads.specs.UnwindData.{UnwindData};
+    ghost use Rattle.framehop_loads.specs.UnwindData.{UnwindData, code_by};
     ghost use Rattle.framehop_loads.specs.UnwindDataViews.{format_view};
 
     ghost Value = { UnwindData };
@@ -49,6 +58,7 @@ impl<D: SectionBytes> Model for ModuleUnwindData<D> {
       format = format_view D.content given.format;
       bases = given.bases;
       base_svma = given.base_svma;
+      code = code_by given.code_rules (format_view D.content given.format) given.text;
     } };
 }
 
@@ -185,7 +195,8 @@ fn choose<D: SectionBytes + Drop, I: ModuleSectionInfo<D>>(
     info: &mut I,
     options: LoadOptions,
 ) -> (ModuleSections<D>, Option<D>)
-    ensures { AreChosen D.content options (I.sections info.old) result.0 result.1 }
+    ensures chosen { AreChosen D.content options (I.sections info.old) result.0 result.1 }
+    ensures text { LeavesText result.0 (I.sections info.old) (I.sections info.new) }
 {
     if !options.debug_frame_beside {
         return (ModuleSections::choose(info), None);
@@ -199,6 +210,17 @@ fn choose<D: SectionBytes + Drop, I: ModuleSectionInfo<D>>(
             None,
         ),
         others => (others, Some(debug_frame)),
+    }
+}
+
+// The bounds of code that no table covers.
+fn unless_covered(is_covered: bool) -> Option<CodeRange>
+    ensures { result ≡ unless_covered is_covered }
+{
+    if is_covered {
+        None
+    } else {
+        Some(CodeRange::everywhere())
     }
 }
 
@@ -216,11 +238,14 @@ impl<D: SectionBytes + Drop> ModuleUnwindData<D> {
         let bases = base_addresses(&BaseSvmas::of(&mut info));
         let base_svma = info.base_svma();
         let (sections, debug_frame) = choose(&mut info, options);
+        let text = text_beside(&mut info, options.code_rules, &sections, base_svma);
         let format = format_with(alloc, options, sections, debug_frame, &bases, base_svma)?;
         Ok(ModuleUnwindData {
             format,
             bases,
             base_svma,
+            code_rules: options.code_rules,
+            text,
         })
     }
 }
@@ -246,5 +271,35 @@ impl<D: SectionBytes> ModuleUnwindData<D> {
         ensures { format_view D.content result.now ≡ self.now.format }
     {
         &self.format
+    }
+
+    /// The code of the module, at addresses relative to its base, if first frames go by ways out of functions.
+    pub fn code(&self) -> Option<Code<'_>>
+        ensures { option_map code_of result ≡ self.now.code }
+    {
+        if !goes_by_ways(self.code_rules) {
+            return None;
+        }
+        match &self.format {
+            ModuleFormat::Pe(file) => file.code(),
+            ModuleFormat::Compact(file, _) => file.code(),
+            ModuleFormat::CallFrames(_) | ModuleFormat::NoFormat => lent(&self.text),
+        }
+    }
+
+    /// The bounds of the code around a relative address, if a first frame there goes by a way out of its function before what the tables
+    /// say: in code that no FDE and no row of a PE file covers, and in each function of a Mach-O file.
+    pub fn way_bounds<A: CompactUnwindInfoUnwinding>(
+        &self,
+        relative_address: u32,
+    ) -> Option<CodeRange>
+        ensures { result ≡ way_bounds self.now.format relative_address }
+    {
+        match &self.format {
+            ModuleFormat::CallFrames(frames) => unless_covered(frames.covers(relative_address)),
+            ModuleFormat::Pe(file) => unless_covered(file.has_row(relative_address)),
+            ModuleFormat::Compact(file, _) => file.way_bounds::<A>(relative_address),
+            ModuleFormat::NoFormat => Some(CodeRange::everywhere()),
+        }
     }
 }

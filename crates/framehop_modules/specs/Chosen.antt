@@ -30,6 +30,10 @@ either_data s name other = option_or (s.section_data name) (s.section_data other
 abbrev pub text : Sections → Option (SectionData (List ℕ))
 text s = option_or (whole_segment s (codes "__TEXT")) (whole_section s (codes "__text"))
 
+-- the section of code: `.text`, else `__text`
+abbrev pub text_section : Sections → Option (SectionData (List ℕ))
+text_section s = option_or (whole_section s (codes ".text")) (whole_section s (codes "__text"))
+
 -- of a Mach-O file the compact unwind info; with it go the call frame information, the ranges of stubs and stub helpers, and
 -- the code
 abbrev pub compact_sections : Sections → List ℕ → ModuleSections (List ℕ)

@@ -10,6 +10,6 @@ mod section_bytes;
 
 pub use generations::{Generations, GenerationsExhausted, LoadError};
 pub use module_section_info::{ExplicitModuleSectionInfo, ModuleSectionInfo};
-pub use module_sections::{BaseSvmas, ModuleSections, SectionData};
+pub use module_sections::{BaseSvmas, ModuleSections, SectionData, text_section};
 pub use pe_section_info::PeModuleSectionInfo;
 pub use section_bytes::SectionBytes;

@@ -2,8 +2,8 @@
 
 ghost use Rattle.std.specs.Prelude.{◌≡◌, option_map, IfSome, IfNone, codes};
 ghost use Rattle.framehop_modules.specs.Sections.{SectionLeft, SegmentLeft};
-ghost use Rattle.framehop_modules.specs.Chosen.{either_data, text, chosen_sections, compact_sections, pe_sections, eh_frame_sections, whole_section, whole_segment, base_svmas, start_of};
-ghost use Rattle.framehop_modules.specs.ChosenViews.{IsTakenWith, LeftUnderEither, section_bytes, sections_bytes};
+ghost use Rattle.framehop_modules.specs.Chosen.{either_data, text, chosen_sections, compact_sections, pe_sections, eh_frame_sections, text_section, whole_section, whole_segment, base_svmas, start_of};
+ghost use Rattle.framehop_modules.specs.ChosenViews.{IsTakenWith, LeavesText, LeftUnderEither, section_bytes, sections_bytes};
 
 use crate::module_section_info::ModuleSectionInfo;
 use crate::section_bytes::SectionBytes;
@@ -65,7 +65,7 @@ fn data_of<D: SectionBytes, I: ModuleSectionInfo<D>>(info: &mut I, name: &[u8]) 
     info.section_data(name)
 }
 
-// A section that has data and a range.
+// A section that has data and a range. If it lacks one of them, nothing is handed out.
 fn whole_section<D: SectionBytes, I: ModuleSectionInfo<D>>(
     info: &mut I,
     name: &[u8],
@@ -73,6 +73,7 @@ fn whole_section<D: SectionBytes, I: ModuleSectionInfo<D>>(
     ensures section { option_map (section_bytes D.content) result
         ≡ whole_section (I.sections info.old) name.now }
     ensures left { SectionLeft name.now (I.sections info.old) (I.sections info.new) }
+    ensures none { IfNone result (I.sections info.new ≡ I.sections info.old) }
 {
     let svma_range = info.section_svma_range(name)?;
     let bytes = info.section_data(name)?;
@@ -112,6 +113,18 @@ fn either_section<D: SectionBytes, I: ModuleSectionInfo<D>>(
     }
 }
 
+/// The section of code, with the addresses that it is at: `.text`, or else `__text`, if it has both.
+pub fn text_section<D: SectionBytes, I: ModuleSectionInfo<D>>(
+    info: &mut I,
+) -> Option<SectionData<D>>
+    ensures { option_map (section_bytes D.content) result ≡ text_section (I.sections info.old) }
+{
+    if let Some(text) = whole_section(info, b".text") {
+        return Some(text);
+    }
+    whole_section(info, b"__text")
+}
+
 // The code of a Mach-O file: the segment `__TEXT`, else the section `__text`.
 fn text_of<D: SectionBytes, I: ModuleSectionInfo<D>>(info: &mut I) -> Option<SectionData<D>>
     ensures { option_map (section_bytes D.content) result ≡ text (I.sections info.old) }
@@ -124,9 +137,10 @@ fn text_of<D: SectionBytes, I: ModuleSectionInfo<D>>(info: &mut I) -> Option<Sec
 
 impl<D: SectionBytes> ModuleSections<D> {
     /// The sections of a module to unwind by: those of the first of `__unwind_info`, `.pdata`,
-    /// `.eh_frame` or `__eh_frame`, and `.debug_frame` that the module has.
+    /// `.eh_frame` or `__eh_frame`, and `.debug_frame` that the module has. The text is handed out only with the first two.
     pub fn choose<I: ModuleSectionInfo<D>>(info: &mut I) -> Self
-        ensures { sections_bytes D.content result ≡ chosen_sections (I.sections info.old) }
+        ensures chosen { sections_bytes D.content result ≡ chosen_sections (I.sections info.old) }
+        ensures text { LeavesText result (I.sections info.old) (I.sections info.new) }
     {
         if let Some(unwind_info) = info.section_data(b"__unwind_info") {
             return ModuleSections::with_compact_unwind_info(info, unwind_info);
@@ -179,8 +193,9 @@ impl<D: SectionBytes> ModuleSections<D> {
 
     // What goes with `.eh_frame` or `__eh_frame`, which was handed out before.
     fn with_eh_frame<I: ModuleSectionInfo<D>>(info: &mut I, eh_frame: D) -> Self
-        ensures { IsTakenWith D.content (codes ".eh_frame") (I.sections info.old) result eh_frame
+        ensures taken { IsTakenWith D.content (codes ".eh_frame") (I.sections info.old) result eh_frame
             eh_frame_sections }
+        ensures text { LeavesText result (I.sections info.old) (I.sections info.new) }
     {
         let eh_frame_hdr = either_section(info, b".eh_frame_hdr", b"__eh_frame_hdr");
         ModuleSections::EhFrame {

@@ -42,6 +42,7 @@ row_code function chained = record { begin = function.begin_address; end = funct
 abbrev pub ends_by : CodeRules → RowCode → EpilogEnds
 ends_by rules.Published row = ends.Published
 ends_by rules.Known row = ends.Known row
+ends_by rules.Ways row = ends.Known row
 
 -- The epilog that is left at an address in the code of a row, which only a first frame can be in.
 abbrev pub epilog_at : PeFile → RowCode → Option Reg → ℕ → Bool → PeResult (Option EpilogLeft)

@@ -14,5 +14,7 @@ mod x86_64;
 pub use framehop_errors::PeUnwinderError;
 pub use framehop_pe_codes::{CodeRules, DataAtRvaRange, PeSections};
 pub use laws::{rules_of_parts, rules_undo_one_by_one, rules_undo_prologs};
-pub use pdata::{RuntimeFunction, pdata_is_increasing, pdata_lookup, pdata_lookup_increasing};
+pub use pdata::{
+    RuntimeFunction, pdata_is_increasing, pdata_lookup, pdata_lookup_increasing, pdata_row,
+};
 pub use pe::PeUnwinding;

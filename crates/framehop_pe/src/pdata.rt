@@ -162,19 +162,16 @@ impl Counted for IncreasingLookup<'_> {
     }
 }
 
-// The number of the first row that contains an address: by halving if the rows are known to increase.
+/// As `pdata_lookup`: by halving if the rows are known to increase.
 #[inline(always)]
-fn row_of(sections: &PeSections<'_>, address: u32) -> Option<usize>
-    requires { IsTrue sections.now.increasing → IsIncreasing sections.now.pdata.now }
-    ensures { result ≡ first_row sections.now.pdata.now address }
+pub fn pdata_row(bytes: &[u8], is_increasing: bool, address: u32) -> Option<usize>
+    requires { IsTrue is_increasing → IsIncreasing bytes.now }
+    ensures { result ≡ first_row bytes.now address }
 {
-    if sections.increasing {
-        count_steps(IncreasingLookup {
-            bytes: sections.pdata,
-            address,
-        })
+    if is_increasing {
+        count_steps(IncreasingLookup { bytes, address })
     } else {
-        pdata_lookup(sections.pdata, address)
+        pdata_lookup(bytes, address)
     }
 }
 
@@ -186,7 +183,7 @@ pub(crate) fn function_of(sections: &PeSections<'_>, address: u32) -> Option<Run
     ensures begin { IfSome result (λ function. function.begin_address ≤ address) }
     ensures end { IfSome result (λ function. address < function.end_address) }
 {
-    let row = row_of(sections, address)?;
+    let row = pdata_row(sections.pdata, sections.increasing, address)?;
     Some(RuntimeFunction {
         begin_address: begin_at(sections.pdata, row),
         end_address: end_at(sections.pdata, row),

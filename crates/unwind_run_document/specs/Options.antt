@@ -1,7 +1,7 @@
 -- The options of a load, decoded from their JSON values.
 use Rattle.std.specs.Prelude.{Bool, false, if◌then◌else◌, List, ℕ, codes, bytes_eq, ok_or, Ok, Option, Some, None}
 use Rattle.framehop_code_rules.specs.declared.CodeRules.{CodeRules}
-use Rattle.framehop_code_rules.specs.declared.CodeRules.TheVariants.{Known, Published}
+use Rattle.framehop_code_rules.specs.declared.CodeRules.TheVariants.{Known, Published, Ways}
 use Rattle.serde_json.specs.Data.{Data}
 use Rattle.serde_json.specs.Find.{as_bool, get}
 use Rattle.json_program.specs.declared.fault.FaultName.TheVariants.{BadCommand}
@@ -32,7 +32,9 @@ lookup_at (Some d) = lookup_value d
 -- the rules of code of this name
 abbrev pub code_rules_named : List ℕ → Option CodeRules
 code_rules_named text =
-    if bytes_eq text (codes "published") then Some Published else if bytes_eq text (codes "known") then Some Known else None
+    if bytes_eq text (codes "published") then Some Published
+    else if bytes_eq text (codes "known") then Some Known
+    else if bytes_eq text (codes "ways") then Some Ways else None
 
 -- a value that has to name them
 abbrev pub code_rules_value : Data → Checked CodeRules

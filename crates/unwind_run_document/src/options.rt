@@ -47,6 +47,8 @@ fn code_rules_in(value: &Value) -> Checked<CodeRules>
         Ok(CodeRules::Published)
     } else if text == "known" {
         Ok(CodeRules::Known)
+    } else if text == "ways" {
+        Ok(CodeRules::Ways)
     } else {
         Err(FaultName::BadCommand)
     }

@@ -10,7 +10,7 @@ use framehop::lookup_laws::truthful_lookups_attempt_alike;
 /// are one line: that of the step by reading the section.
 pub fn truthful_lookups_write_alike<A: Unwinding>()
     ensures { EachWritesAlike (meanings_with A.UnwindRule.meaning A.UnwindRule.fallback
-        A.rows A.pe_attempt A.compact) }
+        A.rows A.pe_attempt A.compact A.first_rule) }
 {
     truthful_lookups_attempt_alike::<A>();
 }

@@ -111,7 +111,7 @@ fn run_on<A: DocumentArch, W: Sink>(
     requires writer { W.has_failed writer.old ≡ false }
     requires sound { AreSound nothing_made (tasks_of commands.items) }
     ensures text { WritesText result (W.contents writer.old) (W.contents writer.new) (lines_under
-        (meanings_with A.UnwindRule.meaning A.UnwindRule.fallback A.rows A.pe_attempt A.compact)
+        (meanings_with A.UnwindRule.meaning A.UnwindRule.fallback A.rows A.pe_attempt A.compact A.first_rule)
         A.forms A.arch (limits_of_policy policy) generation (tasks_of commands.items)) }
     ensures errors { ReportsFailures result false (W.has_failed writer.new) }
 {

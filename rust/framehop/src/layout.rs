@@ -59,7 +59,7 @@ pub(crate) struct MappedFile {
     pub(crate) base_svma: u64,
     pub(crate) sections: *const Section,
     pub(crate) section_count: usize,
-    /// `lookup`, `tables`, `debug_frame_beside` and `reserved`: zeros are the original's choices.
+    /// `lookup`, `tables`, `debug_frame_beside` and `code_rules`: zeros are the original's choices.
     pub(crate) options: [u32; 4],
 }
 

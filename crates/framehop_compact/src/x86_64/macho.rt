@@ -83,7 +83,7 @@ fn helper_has_pushed(code_rules: CodeRules) -> u32
 {
     match code_rules {
         CodeRules::Published => 7,
-        CodeRules::Known => 9,
+        CodeRules::Known | CodeRules::Ways => 9,
     }
 }
 

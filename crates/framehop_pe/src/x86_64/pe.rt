@@ -70,7 +70,7 @@ fn ends_by(code_rules: CodeRules, row: RowCode) -> EpilogEnds
 {
     match code_rules {
         CodeRules::Published => EpilogEnds::Published,
-        CodeRules::Known => EpilogEnds::Known(row),
+        CodeRules::Known | CodeRules::Ways => EpilogEnds::Known(row),
     }
 }
 

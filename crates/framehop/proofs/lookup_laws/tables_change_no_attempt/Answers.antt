@@ -7,7 +7,7 @@ use Rattle.framehop_modules.specs.declared.module_sections.ModuleSections.TheVar
 use Rattle.framehop.specs.Attempts.{FormatMeanings, attempt_by_format}
 use Rattle.framehop_loads.specs.StepLimits.{StepLimits}
 use Rattle.framehop.specs.TableAttempts.{indexed, tabulated}
-use Rattle.framehop_loads.specs.UnwindData.{UnwindData, bases_of, debug_frame_of, format_with, unwind_data_of}
+use Rattle.framehop_loads.specs.UnwindData.{UnwindData, bases_of, code_by, debug_frame_of, format_with, text_of, unwind_data_of}
 use Rattle.framehop_loads.specs.declared.load_options.LoadOptions.{LoadOptions}
 use Rattle.framehop_loads.specs.declared.load_options.TableArch.{TableArch}
 use Rattle.framehop.proofs.lookup_laws.tables_change_no_attempt.Goals as goal
@@ -15,7 +15,9 @@ use Rattle.framehop.proofs.lookup_laws.tables_change_no_attempt.Goals as goal
 module _ {Rule Registers : Type 0} (m : FormatMeanings Rule Registers) (limits : StepLimits) (arch : TableArch) (beside : Bool) (code_rules : CodeRules) (s : Sections) (relative : ℕ) (first : Bool) where
   -- the data with these sections, by what is asked for
   abbrev given : LoadOptions → Option (List ℕ) → ModuleSections (List ℕ) → UnwindData
-  given options debug_frame chosen = record (unwind_data_of s) { format = format_with options (bases_of (base_svmas s)) s.base_svma debug_frame chosen }
+  given options debug_frame chosen =
+      let format = format_with options (bases_of (base_svmas s)) s.base_svma debug_frame chosen in
+      record (unwind_data_of s) { format = format; code = code_by options.code_rules format (text_of s.base_svma s) }
 
   pub as-indexed : (debug_frame : Option (List ℕ)) (chosen : ModuleSections (List ℕ))
       → attempt_by_format m limits (given (tabulated arch beside code_rules) debug_frame chosen) relative first ≡ attempt_by_format m limits (given (indexed beside code_rules) debug_frame chosen) relative first

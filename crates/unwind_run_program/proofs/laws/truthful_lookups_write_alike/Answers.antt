@@ -1,4 +1,4 @@
-use Rattle.std.proofs.Common.{◌≡◌, ℕ, ◌+◌, List, [], ◌∷◌, ◌++◌, true, refl, sym, ap, subst, ◌∙◌}
+use Rattle.std.proofs.Common.{◌≡◌, ℕ, ◌+◌, List, [], ◌∷◌, ◌++◌, true, false, refl, sym, ap, subst, ◌∙◌}
 use Rattle.std.specs.Prelude.{codes}
 use Rattle.dwarf_frame_entries.specs.Entries.{contains}
 use Rattle.framehop.specs.Attempts.{attempt_by_format, format_meanings}
@@ -21,7 +21,7 @@ use Rattle.unwind_run_program.proofs.laws.truthful_lookups_write_alike.Goals as 
 pub returns : goal.returns
 returns g c r covers limits forms arch =
     let rows = g.A.DwarfUnwinding.rows in
-    let formats = format_meanings rows (table_methods g.A.PeUnwinding.pe_attempt g.A.CompactUnwindInfoUnwinding.compact) in
+    let formats = format_meanings rows (table_methods g.A.PeUnwinding.pe_attempt g.A.CompactUnwindInfoUnwinding.compact) g.A.WayUnwinding.first_rule in
     let m = meanings_by g.A.UnwindRule.UnwindRule.meaning g.A.UnwindRule.UnwindRule.fallback formats limits in
     let t = r.tables in
     let base = t.base_svma in
@@ -44,9 +44,11 @@ returns g c r covers limits forms arch =
     } in
     let law = c.truthful_lookups_attempt_alike.ensures in
     let as_scanned : (relative : ℕ) → base + relative ≡ lookup_address frame → attempt_by_format formats limits headed relative frame.is_first ≡ attempt_by_format formats limits scanned relative frame.is_first =
-    λ relative is. sym ((law limits (within relative is)).by_scan frame.is_first) in
+    λ relative is. elim frame.is_first as (λ f. attempt_by_format formats limits headed relative f ≡ attempt_by_format formats limits scanned relative f)
+    [ true ↦ sym ((law limits (within relative is)).by_scan true) | false ↦ sym ((law limits (within relative is)).by_scan false) ] in
     let as_headed : (relative : ℕ) → base + relative ≡ lookup_address frame → attempt_by_format formats limits indexed relative frame.is_first ≡ attempt_by_format formats limits headed relative frame.is_first =
-    λ relative is. (law limits (within relative is)).by_index frame.is_first in
+    λ relative is. elim frame.is_first as (λ f. attempt_by_format formats limits indexed relative f ≡ attempt_by_format formats limits headed relative f)
+    [ true ↦ (law limits (within relative is)).by_index true | false ↦ (law limits (within relative is)).by_index false ] in
     let same : (one : UnwindData) → ((relative : ℕ) → base + relative ≡ lookup_address frame → attempt_by_format formats limits one relative frame.is_first ≡ attempt_by_format formats limits scanned relative frame.is_first)
     → road_line m forms r one ≡ road_line m forms r scanned =
     λ one alike. ap (λ (a : Attempt g.row.A-UnwindRule.Denot g.row.A-UnwindRegs.Denot). outcome_line forms.text registers (by_attempt m frame.is_first registers (words_of r.stack) a))
