@@ -1,5 +1,6 @@
 pub mod Calls
 pub mod Moves
+pub mod Notes
 pub mod Passing
 pub mod RunWalks
 pub mod RegisterLists

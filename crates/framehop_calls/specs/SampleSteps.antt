@@ -1,5 +1,7 @@
 -- Steps over a sample.
-use Rattle.std.specs.Prelude.{ℕ, ◌≡◌, ◌≢◌, Bool, false, Option, Result, Err}
+use Rattle.std.specs.Prelude.{ℕ, ◌≡◌, ◌≢◌, List, Bool, false, Option, Some, None, Result, Err, IfSome}
+use Rattle.std.specs.List.{AllPass}
+use Rattle.framehop_registers.specs.Callback.{Words}
 use Rattle.framehop_registers.specs.declared.code_address.FrameAddress.{FrameAddress}
 use Rattle.framehop_registers.specs.declared.error.Error.{Error}
 use Rattle.framehop_registers.specs.declared.error.Error.TheVariants.{OutOfMemory}
@@ -7,6 +9,7 @@ use Rattle.framehop_rules.specs.Outcome.{Outcome, Caller}
 use Rattle.framehop_unwinder.specs.Attempt.{Meanings}
 use Rattle.framehop_unwinder.specs.ByNumber.{marks}
 use Rattle.framehop_unwinder.specs.Frames.{Frame, frame_of}
+use Rattle.framehop_unwinder.specs.HitReads.{RuleReads, reads_by}
 use Rattle.framehop_unwinder.specs.IdViews.{cache_number, modules_by, unwinder_number}
 use Rattle.framehop_unwinder.specs.Judge.{judge}
 use Rattle.framehop_unwinder.specs.State.{SessionState, StepsThrough}
@@ -14,6 +17,7 @@ use Rattle.framehop_unwinder.specs.Trials.{StaysUnlessStepped, StepsAs, wants_me
 use Rattle.framehop_unwinder.specs.declared.ids.CacheId.{CacheId}
 use Rattle.framehop_unwinder.specs.declared.ids.UnwinderId.{UnwinderId}
 use Rattle.framehop_calls.specs.Samples.{is_known, words_of}
+use Rattle.framehop_calls.specs.declared.sample.AskedSample.{AskedSample}
 use Rattle.framehop_calls.specs.declared.sample.Sample.{Sample}
 use Rattle.framehop_calls.specs.declared.sample_steps.SampleStep.{SampleStep}
 use Rattle.framehop_calls.specs.declared.sample_steps.SampleStep.TheVariants.{Answered, NeedsWord}
@@ -52,6 +56,36 @@ pub record IsAskedFor (sample : Sample) (address : ℕ) : Type 0 where
 abbrev pub AsksAsSaid : SampleStep → Sample → Type 0
 AsksAsSaid (Answered answer) sample = Unit {0}
 AsksAsSaid (NeedsWord address) sample = IsAskedFor sample address
+
+-- where a sample asks, something was known of each word that was read, as far as it is known what was
+abbrev pub Knew : Sample → Option (Words → List ℕ) → Type 0
+Knew sample None = Unit {0}
+Knew sample (Some reads) = sample.asks ≢ 0 → AllPass (is_known sample) (reads (words_of sample))
+
+-- what the rule of a step from a frame with these registers reads, if the cache has it
+abbrev pub reads_at : {Data Rule Registers : Type 0} → RuleReads Rule Registers → SessionState Data Rule → UnwinderId → CacheId → FrameAddress
+    → Registers → Option (Words → List ℕ)
+reads_at reads session unwinder cache address registers = reads_by reads session unwinder cache (frame_of address) registers
+
+-- an answered step knew what it read
+abbrev pub KnewRead : SampleStep → Sample → Option (Words → List ℕ) → Type 0
+KnewRead (Answered answer) sample known = Knew sample known
+KnewRead (NeedsWord address) sample known = Unit {0}
+
+-- Only words are asked for of which nothing is known, and all such words are.
+pub record Asks (sample : Sample) (known : Option (Words → List ℕ)) (made : SampleStep) : Type 0 where
+  pub unknown : AsksAsSaid made sample
+  pub knew : KnewRead made sample known
+
+-- the first address of which nothing is known, of those that were read from none on; if it is known which were
+abbrev pub NotesUnknown : Sample → (wanted : Option ℕ) → Option (Words → List ℕ) → Type 0
+NotesUnknown sample wanted None = Unit {0}
+NotesUnknown sample wanted (Some reads) =
+    (wanted ≡ None → AllPass (is_known sample) (reads (words_of sample))) × IfSome wanted (λ address. is_known sample address ≡ false)
+
+-- a step that began with nothing noted notes the first word that it reads and of which nothing is known
+abbrev pub NotesRead : AskedSample → AskedSample → Option (Words → List ℕ) → Type 0
+NotesRead old new known = old.wanted ≡ None → NotesUnknown old.sample.now new.wanted known
 
 -- a session has the same modules in the same unwinders, and the same caches
 pub record KeepsModules {Data Rule : Type 0} (old new : SessionState Data Rule) : Type 0 where

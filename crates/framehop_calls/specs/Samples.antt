@@ -1,6 +1,7 @@
 -- The words of a sample: a copy of the stack, and a list of what is known beside it.
 use Rattle.std.specs.Prelude.{ℕ, ◌+◌, ◌-◌, length, take, drop, Option, Some, None, is_some, Bool, ◌==◌, nat_le, ◌&&◌, ◌||◌, if◌then◌else◌, position, slice_index_or}
 use Rattle.std.specs.Int.{from_le_bytes}
+use Rattle.std.specs.Option.{option_or}
 use Rattle.framehop_registers.specs.Callback.{Words}
 use Rattle.framehop_calls.specs.declared.sample.KnownWord.{KnownWord}
 use Rattle.framehop_calls.specs.declared.sample.Sample.{Sample}
@@ -37,3 +38,11 @@ words_of sample address = elim (word_copied sample address) [ Some word ↦ Some
 -- something is known of the word at an address
 abbrev pub is_known : Sample → ℕ → Bool
 is_known sample address = is_some (word_copied sample address) || is_some (place_listed sample address)
+
+-- the first address that was asked for and that the list hasn't, after one more is asked for
+abbrev pub first_unlisted : Sample → Option ℕ → ℕ → Option ℕ
+first_unlisted sample wanted address = if is_some (place_listed sample address) then wanted else option_or wanted (Some address)
+
+-- the first address that was asked for and of which nothing is known, after one more is asked for
+abbrev pub first_unknown : Sample → Option ℕ → ℕ → Option ℕ
+first_unknown sample wanted address = if is_known sample address then wanted else option_or wanted (Some address)

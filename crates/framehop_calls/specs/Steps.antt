@@ -1,15 +1,17 @@
 -- Steps and walks by numbers, over samples.
-use Rattle.std.specs.Prelude.{ℕ, ◌≡◌, ◌≢◌, List, take, Some, None, Ok, Err, if◌then◌else◌}
+use Rattle.std.specs.Prelude.{ℕ, ◌≡◌, ◌≢◌, List, take, Option, Some, None, Ok, Err, if◌then◌else◌}
+use Rattle.framehop_registers.specs.Callback.{Words}
 use Rattle.framehop_registers.specs.declared.error.Error.{Error}
 use Rattle.framehop_registers.specs.declared.error.Error.TheVariants.{CouldNotReadStack, FramepointerUnwindingMovedBackwards, DidNotAdvance, IntegerOverflow, ReturnAddressIsNull, OutOfMemory}
 use Rattle.framehop_unwinder.specs.Attempt.{Meanings}
 use Rattle.framehop_unwinder.specs.ByNumber.{is_held}
 use Rattle.framehop_unwinder.specs.Frames.{Frame}
+use Rattle.framehop_unwinder.specs.HitReads.{RuleReads, reads_on_hit}
 use Rattle.framehop_unwinder.specs.Judge.{judge}
-use Rattle.framehop_unwinder.specs.State.{SessionState, modules_at}
+use Rattle.framehop_unwinder.specs.State.{SessionState, cache_at, modules_at, unwinder_at}
 use Rattle.framehop_unwinder.specs.Walk.{Walk}
 use Rattle.framehop_calls.specs.Samples.{words_of}
-use Rattle.framehop_calls.specs.SampleSteps.{AsksAsSaid, CountsAsStep, KeepsModules, SampleSteps}
+use Rattle.framehop_calls.specs.SampleSteps.{AsksAsSaid, CountsAsStep, KeepsModules, Knew, SampleSteps}
 use Rattle.framehop_calls.specs.SampleWalks.{NeedsUnknown, Through, WalkIn, WalksOver, WritesFrames}
 use Rattle.framehop_calls.specs.declared.sample.Sample.{Sample}
 use Rattle.framehop_calls.specs.declared.sample_steps.SampleStep.{SampleStep}
@@ -89,6 +91,18 @@ pub record StepsByNumber {Data Rule Registers : Type 0} (m : Meanings Data Rule 
   pub told : status_of_numbers old old_call.unwinder old_call.cache ≢ ok → status ≡ status_of_numbers old old_call.unwinder old_call.cache
   pub session : status_of_numbers old old_call.unwinder old_call.cache ≢ ok → new ≡ old
   pub call : status_of_numbers old old_call.unwinder old_call.cache ≢ ok → new_call ≡ old_call
+
+-- what the rule of a step reads, if the cache that is named has it
+abbrev pub reads_by_call : {Data Rule Registers : Type 0} → RuleReads Rule Registers → StepCall Registers → SessionState Data Rule
+    → Option (Words → List ℕ)
+reads_by_call reads call session =
+    reads_on_hit reads (unwinder_at session.unwinders call.unwinder).generation (cache_at session.caches call.cache) call.frame call.registers
+
+-- a step that needs no word knew what it read, if the cache has its rule
+abbrev pub KnewByNumber : {Data Rule Registers : Type 0} → RuleReads Rule Registers → (status : ℕ) → Sample → StepCall Registers
+    → SessionState Data Rule → Type 0
+KnewByNumber reads status sample call session =
+    status_of_numbers session call.unwinder call.cache ≡ ok → status ≢ need_word → Knew sample (reads_by_call reads call session)
 
 -- the status of a walk
 abbrev pub walk_status : WalkEnd → ℕ

@@ -2,7 +2,7 @@
 
 ghost use Rattle.std.specs.Prelude.{◌≡◌};
 ghost use Rattle.framehop_registers.specs.Callback.{read_answer};
-ghost use Rattle.framehop_calls.specs.Samples.{is_known, place_listed, word_copied, word_listed, words_of};
+ghost use Rattle.framehop_calls.specs.Samples.{first_unknown, first_unlisted, is_known, place_listed, word_copied, word_listed, words_of};
 
 /// What is known of the word at an address.
 #[derive(Clone, Copy)]
@@ -103,6 +103,7 @@ impl AskedSample<'_, '_> {
     pub(crate) fn word(&mut self, address: u64) -> Result<u64, ()>
         ensures answer { result ≡ read_answer (words_of self.old.sample.now address) }
         ensures sample { self.new.sample ≡ self.old.sample }
+        ensures noted { self.new.wanted ≡ first_unknown self.old.sample.now self.old.wanted address }
     {
         if let Some(word) = self.sample.copied(address) {
             return Ok(word);
@@ -116,6 +117,7 @@ impl AskedSample<'_, '_> {
     fn listed(&mut self, address: u64) -> Result<u64, ()>
         ensures answer { result ≡ read_answer (word_listed self.old.sample.now address) }
         ensures sample { self.new.sample ≡ self.old.sample }
+        ensures noted { self.new.wanted ≡ first_unlisted self.old.sample.now self.old.wanted address }
     {
         let Some(place) = self.sample.place_of(address) else {
             if self.wanted.is_none() {

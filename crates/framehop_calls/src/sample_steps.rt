@@ -1,12 +1,12 @@
 //! Steps over a sample.
 
-ghost use Rattle.std.specs.Prelude.{◌≡◌, false, true, IfOk, IfSome, OnErr};
+ghost use Rattle.std.specs.Prelude.{◌≡◌, ◌≢◌, false, true, None, IfOk, IfSome, OnErr, OnOk};
 ghost use Rattle.framehop_registers.specs.Callback.{read_answer};
 ghost use Rattle.framehop_unwinder.specs.Frames.{frame_of};
 ghost use Rattle.framehop_unwinder.specs.IdViews.{FindsHeld, StepsBy, has_both};
 ghost use Rattle.framehop_unwinder.specs.Trials.{wants_memory};
-ghost use Rattle.framehop_calls.specs.Samples.{words_of};
-ghost use Rattle.framehop_calls.specs.SampleSteps.{AnswersIn, AsksAsSaid, CountsBy, IsAskedFor, KeepsModules, SampleSteps, StepsIn, TakesNoMemory, outcome_in};
+ghost use Rattle.framehop_calls.specs.Samples.{first_unknown, is_known, words_of};
+ghost use Rattle.framehop_calls.specs.SampleSteps.{AnswersIn, Asks, CountsBy, IsAskedFor, KeepsModules, NotesRead, SampleSteps, StepsIn, TakesNoMemory, outcome_in, reads_at};
 
 use crate::sample::{AskedSample, Sample};
 use framehop_rules::{Error, FrameAddress};
@@ -24,7 +24,8 @@ pub enum SampleStep {
 // What was asked for, if the sample asks and nothing is known of it.
 #[inline(always)]
 fn needed(sample: &Sample<'_>, wanted: Option<u64>) -> Option<u64>
-    ensures { IfSome result (IsAskedFor sample.now) }
+    ensures asked { IfSome result (IsAskedFor sample.now) }
+    ensures none { result ≡ None → sample.now.asks ≢ 0 → IfSome wanted (λ at. is_known sample.now at ≡ true) }
 {
     let address = wanted?;
     if sample.asks == 0 || sample.knows(address) {
@@ -75,10 +76,14 @@ fn step_by_asked<A: ModuleUnwinding>(
     ensures caches { IfOk result (λ answer. StepsBy A.meanings answer
         (frame_of address) unwinder cache session.old session.new) }
     ensures memory { IfOk result (λ answer. A.takes_memory ≡ false → wants_memory answer ≡ false) }
+    ensures noted { OnOk result (NotesRead asked.old asked.new
+        (reads_at A.UnwindRule.reads session.old unwinder cache address regs.old)) }
 {
     let mut read_stack = |at: u64| -> Result<u64, ()>
         ensures answer { result ≡ read_answer (words_of asked.entry.now.sample.now at) }
         ensures sample { asked.exit.now.sample ≡ asked.entry.now.sample }
+        ensures noted { asked.exit.now.wanted ≡ first_unknown asked.entry.now.sample.now asked.entry.now.wanted at }
+        ensures loan { asked.exit.ghost_name ≡ asked.entry.ghost_name }
     { asked.word(at) };
     session.step(unwinder, cache, address, regs, &mut read_stack)
 }
@@ -98,7 +103,8 @@ pub(crate) fn step_if_held<A: ModuleUnwinding>(
     ensures unchanged { OnErr result (regs.new ≡ regs.old) }
     ensures step { IfOk result (λ made.
         StepsIn A.meanings session.old unwinder address sample.now made regs.old regs.new) }
-    ensures asks { IfOk result (λ made. AsksAsSaid made sample.now) }
+    ensures asks { IfOk result (Asks sample.now
+        (reads_at A.UnwindRule.reads session.old unwinder cache address regs.old)) }
     ensures caches { IfOk result
         (λ made. CountsBy A.meanings made address unwinder cache session.old session.new) }
     ensures memory { IfOk result (λ made. A.takes_memory ≡ false → TakesNoMemory made) }
@@ -111,7 +117,7 @@ pub(crate) fn step_if_held<A: ModuleUnwinding>(
 }
 
 // Makes a step over a sample that asks for words, if the session has both: none if a word has to be known first.
-#[inline(never)]
+#[inline(always)]
 fn step_or_need<A: ModuleUnwinding>(
     session: &mut Session<A>,
     unwinder: UnwinderId,
@@ -124,7 +130,8 @@ fn step_or_need<A: ModuleUnwinding>(
     ensures unchanged { OnErr result (regs.new ≡ regs.old) }
     ensures step { IfOk result (λ made.
         StepsIn A.meanings session.old unwinder address sample.now made regs.old regs.new) }
-    ensures asks { IfOk result (λ made. AsksAsSaid made sample.now) }
+    ensures asks { IfOk result (Asks sample.now
+        (reads_at A.UnwindRule.reads session.old unwinder cache address regs.old)) }
     ensures caches { IfOk result
         (λ made. CountsBy A.meanings made address unwinder cache session.old session.new) }
     ensures memory { IfOk result (λ made. A.takes_memory ≡ false → TakesNoMemory made) }
@@ -158,7 +165,7 @@ pub fn step_in_sample<A: ModuleUnwinding>(
     requires { has_both session.old unwinder cache ≡ true }
     ensures step { SampleSteps result regs.old regs.new
         (outcome_in A.meanings session.old unwinder address regs.old sample.now) }
-    ensures asks { AsksAsSaid result sample.now }
+    ensures asks { Asks sample.now (reads_at A.UnwindRule.reads session.old unwinder cache address regs.old) result }
     ensures session { KeepsModules session.old session.new }
     ensures caches { CountsBy A.meanings result address unwinder cache session.old session.new }
     ensures memory { A.takes_memory ≡ false → TakesNoMemory result }

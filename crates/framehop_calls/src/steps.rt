@@ -5,7 +5,7 @@ ghost use Rattle.framehop_unwinder.specs.Frames.{frame_of};
 ghost use Rattle.framehop_unwinder.specs.IdViews.{cache_number, unwinder_number};
 ghost use Rattle.framehop_calls.specs.CallViews.{step_call};
 ghost use Rattle.framehop_calls.specs.Places.{frame_numbered};
-ghost use Rattle.framehop_calls.specs.Steps.{StepsByNumber, return_address_by, status_of_numbers, step_status, word_by, word_of_error};
+ghost use Rattle.framehop_calls.specs.Steps.{KnewByNumber, StepsByNumber, return_address_by, status_of_numbers, step_status, word_by, word_of_error};
 
 use crate::sample::Sample;
 use crate::sample_steps::{SampleStep, step_if_held};
@@ -92,7 +92,8 @@ impl<A: ModuleUnwinding> CountedSession<A> {
     /// Makes a step over a sample. Writes the return address, or the address of the word that is needed or can't be read, and answers the
     /// status.
     pub fn step(&mut self, call: &mut SampleStepCall<A::UnwindRegs>, sample: &Sample<'_>) -> u32
-        ensures { StepsByNumber A.meanings result sample.now (step_call call.old) (step_call call.new) self.old self.new }
+        ensures made { StepsByNumber A.meanings result sample.now (step_call call.old) (step_call call.new) self.old self.new }
+        ensures knew { KnewByNumber A.UnwindRule.reads result sample.now (step_call call.old) self.old }
     {
         let unwinder = UnwinderId::numbered(call.unwinder as usize);
         let cache = CacheId::numbered(call.cache as usize);
