@@ -5,11 +5,11 @@ ghost use Rattle.std.specs.List.Sorted.{IsNonDecreasingBy};
 
 use crate::event_names::event_names;
 use crate::source::Source;
-use dwarf_endianity::{Endianity, LittleEndian};
 use perf_files::{
     Architecture, AttributeEntry, Attributes, Event, EventError, FeatureError, FieldError,
     FileBuildId, FileHeader, HeaderError, PerfHeader, Record, RecordError, RecordKind, RecordPlace,
-    Section, Words, architecture_in, event_of, read_header, record_at, sort_by_time, time_of,
+    Section, Words, architecture_in, event_of, head_at, read_header, record_at, sort_by_time,
+    time_of,
 };
 use std::alloc::{AllocError, AllocFailed, Global};
 use std::io;
@@ -112,9 +112,6 @@ const AHEAD: u64 = 1 << 9;
 // The most that the header and the first fields of a sample take, which say of which event it is and when it was taken.
 const SAMPLE_HEAD: u64 = 80;
 
-// The number of samples among kinds of records.
-const SAMPLE: u32 = 9;
-
 const PIPE_HEADER_SIZE: u64 = 16;
 
 const FILE_HEADER_SIZE: u64 = 104;
@@ -156,27 +153,6 @@ fn is_taken(kind: RecordKind) -> bool {
             | RecordKind::LostSamples
             | RecordKind::Sample
     )
-}
-
-// The sample that some bytes begin with, by its first fields, and its size; none if they begin otherwise, or if the sample ends behind so
-// many.
-fn sample_head(bytes: &[u8], offset: u64, left: u64) -> Option<(Record<'_>, u64)> {
-    if bytes.len() < 8 || LittleEndian.read_u32(bytes) != SAMPLE {
-        return None;
-    }
-    let size = LittleEndian.read_u16(&bytes[6..]);
-    if size < 8 || u64::from(size) > left {
-        return None;
-    }
-    let known = bytes.len().min(usize::from(size));
-    let head = &bytes[..known];
-    let record = Record {
-        offset,
-        kind: RecordKind::Sample,
-        misc: LittleEndian.read_u16(&bytes[4..]),
-        payload: &head[8..],
-    };
-    Some((record, u64::from(size)))
 }
 
 impl Recording {
@@ -365,9 +341,13 @@ impl Recording {
         left: u64,
     ) -> Result<Option<u64>, ReadError> {
         let bytes = source.bytes(offset, left.min(SAMPLE_HEAD), AHEAD)?;
-        let Some((record, size)) = sample_head(bytes, offset, left) else {
+        let Ok(Some((record, size))) = head_at(bytes, offset) else {
             return Ok(None);
         };
+        let size = size as u64;
+        if size > left || !matches!(record.kind, RecordKind::Sample) {
+            return Ok(None);
+        }
         self.take_place(&record)?;
         Ok(Some(size))
     }

@@ -1,12 +1,10 @@
 -- The entries of a map as lines.
-use Rattle.std.proofs.Common.{◌≡◌, ℕ, List, [], ◌∷◌, map, Bool, false, cond, Option, Some, None, Vec, refl, ap, ◌∙◌}
-use Rattle.std.proofs.lemmas.Cmp.{nat_list_cmp_total, tied_itself}
+use Rattle.std.proofs.Common.{◌≡◌, ℕ, ◌+◌, ◌-◌, ◌^◌, ◌<◌, min, List, [], ◌∷◌, map, Bool, cond, Option, Some, None, Vec, refl, ap, ◌∙◌, unwrap_or, arith}
 use Rattle.std.proofs.lemmas.Map.Text.{is_eq-slice_cmp}
 use Rattle.std.specs.BTreeMap.{insert_entry, is_at}
 use Rattle.std.specs.Cmp.Lexicographic.{slice_cmp}
 use Rattle.std.specs.Global.{Global}
 use Rattle.std.specs.Map.{lookup}
-use Rattle.std.specs.Option.{is_some}
 use Rattle.std.specs.Ordering.{match_ordering, nat_cmp}
 use Rattle.std.specs.Prelude.{bytes_eq}
 use Rattle.std.specs.declared.cmp.Ordering.{Ordering}
@@ -38,7 +36,7 @@ inserted key count (e ∷ es) =
     ∙ ap (λ (xs : List Line). match_ordering o (entry_seen (key, count) ∷ map entry_seen (e ∷ es)) (entry_seen (e.0, count) ∷ map entry_seen es) (entry_seen e ∷ xs)) (inserted key count es)
 
 -- samples more of a stack, whose count is inserted in a map
-pub counting : (stack : List ℕ) (key : Vec ℕ Global) (samples : ℕ) (old new : List (Vec ℕ Global × ℕ)) (known : Option ℕ) (count : ℕ) → key.items ≡ stack
+counting : (stack : List ℕ) (key : Vec ℕ Global) (samples : ℕ) (old new : List (Vec ℕ Global × ℕ)) (known : Option ℕ) (count : ℕ) → key.items ≡ stack
     → known ≡ lookup (is_at (λ k. slice_cmp nat_cmp stack k.items)) old → count ≡ more_than known samples
     → new ≡ insert_entry (λ a b. slice_cmp nat_cmp a.items b.items) old key count
     → map entry_seen new ≡ counted (record { stack = stack; count = samples }) (map entry_seen old)
@@ -48,58 +46,16 @@ counting stack key samples old new known count same is-known is-count is-new =
     ∙ ap (λ (s : List ℕ). with_line (record { stack = s; count = count }) lines) same
     ∙ ap (λ (n : ℕ). with_line (record { stack = stack; count = n }) lines) (is-count ∙ ap (λ (o : Option ℕ). more_than o samples) (is-known ∙ found stack old))
 
--- ---- a text is put in without a look-up before
+-- a count with samples more, where a stack without samples has the count 0
+total : (known : Option ℕ) (samples : ℕ) → samples < 2 ^ 64 → min (unwrap_or known 0 + samples) (2 ^ 64 - 1) ≡ more_than known samples
+total None samples fits = omega arith
+total (Some count) samples fits = refl
 
-abbrev line_of : List ℕ → ℕ → Line
-line_of stack count = record { stack = stack; count = count }
-
-twice-by : (s : List ℕ) (m n : ℕ) (other : Line) (others : List Line) (o : Ordering) → slice_cmp nat_cmp s other.stack ≡ o
-    → with_line (line_of s n) (with_line (line_of s m) others) ≡ with_line (line_of s n) others
-    → with_line (line_of s n) (match_ordering o (line_of s m ∷ other ∷ others) (line_of other.stack m ∷ others) (other ∷ with_line (line_of s m) others))
-    ≡ match_ordering o (line_of s n ∷ other ∷ others) (line_of other.stack n ∷ others) (other ∷ with_line (line_of s n) others)
-twice-by s m n other others Less is further =
-    ap (λ (o : Ordering). match_ordering o (line_of s n ∷ line_of s m ∷ other ∷ others) (line_of s n ∷ other ∷ others)
-    (line_of s m ∷ with_line (line_of s n) (other ∷ others))) (tied_itself nat_list_cmp_total s)
-twice-by s m n other others Equal is further =
-    ap (λ (o : Ordering). match_ordering o (line_of s n ∷ line_of other.stack m ∷ others) (line_of other.stack n ∷ others)
-    (line_of other.stack m ∷ with_line (line_of s n) others)) is
-twice-by s m n other others Greater is further =
-    let kept = with_line (line_of s m) others in
-    ap (λ (o : Ordering). match_ordering o (line_of s n ∷ other ∷ kept) (line_of other.stack n ∷ kept) (other ∷ with_line (line_of s n) kept)) is
-    ∙ ap (λ (ls : List Line). other ∷ ls) further
-
--- of a stack that is put in twice the second count stays
-twice : (s : List ℕ) (m n : ℕ) (lines : List Line) → with_line (line_of s n) (with_line (line_of s m) lines) ≡ with_line (line_of s n) lines
-twice s m n [] =
-    ap (λ (o : Ordering). match_ordering o (line_of s n ∷ line_of s m ∷ []) (line_of s n ∷ []) (line_of s m ∷ with_line (line_of s n) [])) (tied_itself nat_list_cmp_total s)
-twice s m n (other ∷ others) = twice-by s m n other others (slice_cmp nat_cmp s other.stack) refl (twice s m n others)
-
-unknown : (known : Option ℕ) (samples : ℕ) → is_some known ≡ false → samples ≡ more_than known samples
-unknown None samples none = refl
-unknown (Some count) samples none = cc
-
--- samples of a stack that wasn't there
-pub counting-new : (stack : List ℕ) (key : Vec ℕ Global) (samples : ℕ) (old new : List (Vec ℕ Global × ℕ)) (known : Option ℕ) → key.items ≡ stack
-    → known ≡ lookup (is_at (λ k. slice_cmp nat_cmp key.items k.items)) old → is_some known ≡ false
-    → new ≡ insert_entry (λ a b. slice_cmp nat_cmp a.items b.items) old key samples
-    → map entry_seen new ≡ counted (line_of stack samples) (map entry_seen old)
-counting-new stack key samples old new known same is-known none is-new =
-    counting stack key samples old new known samples same
-    (is-known ∙ ap (λ (s : List ℕ). lookup (is_at (λ k. slice_cmp nat_cmp s k.items)) old) same) (unknown known samples none) is-new
-
--- samples of a stack that was there, whose count is inserted again
-pub counting-again : (stack : List ℕ) (key again : Vec ℕ Global) (samples : ℕ) (old once new : List (Vec ℕ Global × ℕ)) (known : Option ℕ) (count : ℕ)
-    → key.items ≡ stack → again.items ≡ stack → known ≡ lookup (is_at (λ k. slice_cmp nat_cmp key.items k.items)) old → count ≡ more_than known samples
-    → once ≡ insert_entry (λ a b. slice_cmp nat_cmp a.items b.items) old key samples
-    → new ≡ insert_entry (λ a b. slice_cmp nat_cmp a.items b.items) once again count
-    → map entry_seen new ≡ counted (line_of stack samples) (map entry_seen old)
-counting-again stack key again samples old once new known count same same-again is-known is-count is-once is-new =
-    let lines = map entry_seen old in
-    ap (λ (es : List (Vec ℕ Global × ℕ)). map entry_seen es) is-new ∙ inserted again count once
-    ∙ ap (λ (ls : List Line). with_line (line_of again.items count) ls)
-    (ap (λ (es : List (Vec ℕ Global × ℕ)). map entry_seen es) is-once ∙ inserted key samples old)
-    ∙ ap (λ (s : List ℕ). with_line (line_of s count) (with_line (line_of key.items samples) lines)) same-again
-    ∙ ap (λ (s : List ℕ). with_line (line_of stack count) (with_line (line_of s samples) lines)) same
-    ∙ twice stack samples count lines
-    ∙ ap (λ (n : ℕ). with_line (line_of stack n) lines)
-    (is-count ∙ ap (λ (o : Option ℕ). more_than o samples) (is-known ∙ found key.items old ∙ ap (λ (s : List ℕ). count_of s lines) same))
+-- samples more of a stack, whose count is written where the map has it
+pub counting-in-place : (stack : List ℕ) (key : Vec ℕ Global) (samples : ℕ) (old new : List (Vec ℕ Global × ℕ)) (known : Option ℕ) (count : ℕ)
+    → key.items ≡ stack → known ≡ lookup (is_at (λ k. slice_cmp nat_cmp key.items k.items)) old → samples < 2 ^ 64
+    → count ≡ min (unwrap_or known 0 + samples) (2 ^ 64 - 1) → new ≡ insert_entry (λ a b. slice_cmp nat_cmp a.items b.items) old key count
+    → map entry_seen new ≡ counted (record { stack = stack; count = samples }) (map entry_seen old)
+counting-in-place stack key samples old new known count same is-known fits is-count is-new =
+    counting stack key samples old new known count same
+    (is-known ∙ ap (λ (s : List ℕ). lookup (is_at (λ k. slice_cmp nat_cmp s k.items)) old) same) (is-count ∙ total known samples fits) is-new

@@ -2,7 +2,7 @@
 
 ghost use Rattle.std.specs.Prelude.{◌≡◌, [], IfOk, OnErr, OnOk, map};
 ghost use Rattle.folded_stacks.specs.LineViews.{CountsText, entry_seen, line_seen};
-ghost use Rattle.folded_stacks.specs.Lines.{all_counted, more_than, named, stack_text, with_samples};
+ghost use Rattle.folded_stacks.specs.Lines.{all_counted, named, stack_text, with_samples};
 
 use crate::frame_names::FrameNames;
 use crate::lines::{FoldedLine, text_of};
@@ -28,16 +28,6 @@ impl Model for StackCounts {
     ghost view = { λ counts. map entry_seen counts.counts.entries };
 }
 
-// A count with so many samples more.
-fn more_than(count: Option<u64>, samples: u64) -> u64
-    ensures { result ≡ more_than count samples }
-{
-    match count {
-        Some(count) => count.saturating_add(samples),
-        None => samples,
-    }
-}
-
 impl StackCounts {
     /// No samples.
     pub fn new(alloc: Global) -> Self
@@ -53,14 +43,14 @@ impl StackCounts {
         ensures counted { OnOk result (self.new ≡ with_samples stack.now samples self.old) }
         ensures err { OnErr result (self.new ≡ self.old) }
     {
-        let count = more_than(self.counts.get(stack).copied(), samples);
         let key = stack.to_vec(alloc)?;
-        self.counts.insert(key, count)?;
+        let count = self.counts.entry(key)?.or_insert(0);
+        *count = count.saturating_add(samples);
         Ok(())
     }
 }
 
-// Counts samples of a stack by its text. A text that is there already is rare: so it is made again then, and not looked up before.
+// Counts samples of a stack by its text.
 fn add_text(
     alloc: Global,
     lines: &mut BTreeMap<Vec<u8>, u64>,
@@ -71,11 +61,9 @@ fn add_text(
     ensures { OnOk result (CountsText (stack_text names.now stack.now) samples
         lines.old.entries lines.new.entries) }
 {
-    let known = lines.insert(text_of(alloc, names, stack)?, samples)?;
-    if known.is_some() {
-        let count = more_than(known, samples);
-        lines.insert(text_of(alloc, names, stack)?, count)?;
-    }
+    let text = text_of(alloc, names, stack)?;
+    let known = lines.entry(text)?.or_insert(0);
+    *known = known.saturating_add(samples);
     Ok(())
 }
 

@@ -1,2 +1,3 @@
 pub mod LineViews
 pub mod Lines
+pub mod Symbols

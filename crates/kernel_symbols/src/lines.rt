@@ -1,28 +1,62 @@
 //! The lines of a list of a kernel's symbols.
 
-ghost use Rattle.std.specs.Prelude.{◌≡◌, ◌==◌, option_map, position};
-ghost use Rattle.kernel_symbols.specs.Lines.{before_byte, digit_of, is_code, number_of, number_with, part_of, symbol_in};
-ghost use Rattle.kernel_symbols.specs.LineViews.{part_seen, symbol_seen};
+ghost use Rattle.std.specs.Prelude.{◌≡◌, ◌<◌, ◌==◌, IfSome, option_map, position};
+ghost use Rattle.std.specs.Option.{option_copied};
+ghost use Rattle.kernel_symbols.specs.Lines.{address_in, before_byte, digit_of, first_line, is_code, name_behind, number_with, symbol_in};
+ghost use Rattle.kernel_symbols.specs.LineViews.{address_seen, line_seen, symbol_seen};
 
 /// A symbol of a kernel.
 #[derive(Clone, Copy, Debug)]
 pub(crate) struct KernelSymbol<'a> {
     /// Its address.
     pub(crate) address: u64,
-    /// Its name.
+    /// Its name, and behind a tabulator the module that it is in.
     pub(crate) name: &'a [u8],
 }
 
-// A part of a line up to a space, and what follows that.
+/// A line of a list, and what follows it.
 #[derive(Clone, Copy, Debug)]
-struct Part<'a> {
-    bytes: &'a [u8],
+pub(crate) struct Line<'a> {
+    /// The line.
+    pub(crate) bytes: &'a [u8],
+    /// What follows it.
+    pub(crate) rest: &'a [u8],
+}
+
+// The address that a line begins with, and what follows the space behind it.
+#[derive(Clone, Copy, Debug)]
+struct Address<'a> {
+    number: u64,
     rest: &'a [u8],
+}
+
+// Where a byte is for the first time.
+fn first_of(bytes: &[u8], wanted: u8) -> Option<usize>
+    ensures { result ≡ position (λ byte. byte == wanted) bytes.now }
+{
+    bytes.iter().position(|byte| *byte == wanted)
+}
+
+/// The first line of a list, and what follows it.
+pub(crate) fn first_line(list: &[u8]) -> Line<'_>
+    ensures { line_seen result ≡ first_line list.now }
+{
+    match first_of(list, b'\n') {
+        Some(size) => Line {
+            bytes: &list[..size],
+            rest: &list[size + 1..],
+        },
+        None => Line {
+            bytes: list,
+            rest: &[],
+        },
+    }
 }
 
 // The value of a hexadecimal digit.
 fn digit_of(byte: u8) -> Option<u64>
-    ensures { result ≡ digit_of byte }
+    ensures digit { result ≡ digit_of byte }
+    ensures small { IfSome result (λ digit. digit < 16) }
 {
     if b'0' <= byte && byte <= b'9' {
         Some(u64::from(byte - b'0'))
@@ -40,85 +74,76 @@ fn number_with(number: u64, byte: u8) -> Option<u64>
     let Some(digit) = digit_of(byte) else {
         return None;
     };
-    match number.checked_mul(16) {
-        Some(sixteens) => sixteens.checked_add(digit),
-        None => None,
+    if number < 1 << 60 {
+        Some(number * 16 + digit)
+    } else {
+        None
     }
 }
 
-// The number that hexadecimal digits say, if it is one of 64 bits.
-fn number_of(digits: &[u8]) -> Option<u64>
-    ensures { result ≡ number_of digits.now }
+// The address that a line begins with, in hexadecimal digits, and what follows the space behind it.
+fn address_in(line: &[u8]) -> Option<Address<'_>>
+    ensures { option_map address_seen result ≡ address_in line.now }
 {
     let mut number = 0;
-    for byte in digits {
+    for (index, byte) in line.iter().enumerate() {
+        if *byte == b' ' {
+            return Some(Address {
+                number,
+                rest: &line[index + 1..],
+            });
+        }
         let Some(next) = number_with(number, *byte) else {
             return None;
         };
         number = next;
     }
-    Some(number)
+    None
 }
 
-// Where a byte is for the first time.
-fn first_of(bytes: &[u8], wanted: u8) -> Option<usize>
-    ensures { result ≡ position (λ byte. byte == wanted) bytes.now }
+// Whether symbols of a type have code.
+fn is_code(letter: u8) -> bool
+    ensures { result ≡ is_code letter }
 {
-    bytes.iter().position(|byte| *byte == wanted)
+    letter == b't' || letter == b'T' || letter == b'w' || letter == b'W'
 }
 
-// The bytes before the first one of a kind, or all.
-fn before_byte(bytes: &[u8], wanted: u8) -> &[u8]
+// The name behind the letter of a type and a space, if symbols of this type have code.
+fn name_behind(rest: &[u8]) -> Option<&[u8]>
+    ensures { option_copied result ≡ name_behind rest.now }
+{
+    match rest {
+        [letter, b' ', name @ ..] if is_code(*letter) => Some(name),
+        _ => None,
+    }
+}
+
+/// The symbol in a line, if it has code and an address, which is 0 if who made the list may not see addresses: the address in hexadecimal
+/// digits, the letter of its type and its name, each behind a space, and behind a tabulator the module that it is in.
+pub(crate) fn symbol_in(line: &[u8]) -> Option<KernelSymbol<'_>>
+    ensures { option_map symbol_seen result ≡ symbol_in line.now }
+{
+    let Some(address) = address_in(line) else {
+        return None;
+    };
+    if address.number == 0 {
+        return None;
+    }
+    match name_behind(address.rest) {
+        Some(name) => Some(KernelSymbol {
+            address: address.number,
+            name,
+        }),
+        None => None,
+    }
+}
+
+/// The bytes before the first one of a kind, or all.
+pub(crate) fn before_byte(bytes: &[u8], wanted: u8) -> &[u8]
     ensures { result.now ≡ before_byte bytes.now wanted }
 {
     match first_of(bytes, wanted) {
         Some(size) => &bytes[..size],
         None => bytes,
-    }
-}
-
-// The part of a line up to a space, if there is one.
-fn part_of(line: &[u8]) -> Option<Part<'_>>
-    ensures { option_map part_seen result ≡ part_of line.now }
-{
-    match first_of(line, b' ') {
-        Some(size) => Some(Part {
-            bytes: &line[..size],
-            rest: &line[size + 1..],
-        }),
-        None => None,
-    }
-}
-
-// Whether symbols of a type have code.
-fn is_code(kind: &[u8]) -> bool
-    ensures { result ≡ is_code kind.now }
-{
-    match kind {
-        [letter] => *letter == b't' || *letter == b'T' || *letter == b'w' || *letter == b'W',
-        _ => false,
-    }
-}
-
-/// The symbol in a line, if it has code: its address in hexadecimal digits, the letter of its type, and its name, each behind a space,
-/// and behind a tabulator the module that it is in.
-pub(crate) fn symbol_in(line: &[u8]) -> Option<KernelSymbol<'_>>
-    ensures { option_map symbol_seen result ≡ symbol_in line.now }
-{
-    let Some(address) = part_of(line) else {
-        return None;
-    };
-    let Some(kind) = part_of(address.rest) else {
-        return None;
-    };
-    if !is_code(kind.bytes) {
-        return None;
-    }
-    match number_of(address.bytes) {
-        Some(address) => Some(KernelSymbol {
-            address,
-            name: before_byte(kind.rest, b'\t'),
-        }),
-        None => None,
     }
 }

@@ -42,7 +42,7 @@ kind_of number =
 abbrev pub record_size : List ℕ → ℕ
 record_size bytes = number_at 2 bytes 6
 
--- The record that some bytes begin with, of this size.
+-- What some bytes have of the record that they begin with, which has this size.
 abbrev pub record_from : List ℕ → ℕ → ℕ → RecordParts
 record_from bytes offset size = record {
   offset = offset;
@@ -50,6 +50,13 @@ record_from bytes offset size = record {
   misc = number_at 2 bytes 4;
   payload = drop 8 (take size bytes);
 }
+
+-- The same with the size, if they have its header.
+abbrev pub head_at : List ℕ → ℕ → Result (Option (RecordParts × ℕ)) RecordError
+head_at bytes offset =
+    if nat_lt (length bytes) 8 then Ok None else
+    if nat_lt (record_size bytes) 8 then Err (TooSmall offset) else
+    Ok (Some (record_from bytes offset (record_size bytes), record_size bytes))
 
 -- How many bytes of data follow a record that aren't records: behind PERF_RECORD_HEADER_TRACING_DATA they are padded to 8.
 unfoldable pub data_behind : RecordKind → List ℕ → FieldResult ℕ
@@ -63,11 +70,13 @@ with_data found size (Ok behind) =
     if nat_lt (behind + size) (2 ^ 64) then Ok (Some (found, behind + size)) else Err (DataTooLarge found.offset)
 with_data found size (Err error) = Err (Unreadable found.offset error)
 
+-- A record of which bytes have the head, if they have it whole.
+abbrev pub whole_record : List ℕ → Result (Option (RecordParts × ℕ)) RecordError → Result (Option (RecordParts × ℕ)) RecordError
+whole_record bytes (Ok (Some head)) =
+    if nat_lt (length bytes) head.1 then Ok None else with_data head.0 head.1 (data_behind head.0.kind head.0.payload)
+whole_record bytes (Ok None) = Ok None
+whole_record bytes (Err error) = Err error
+
 -- The record that some bytes begin with, and how far behind its beginning the next one begins; none if it isn't whole.
 unfoldable pub record_at : List ℕ → ℕ → Result (Option (RecordParts × ℕ)) RecordError
-record_at bytes offset =
-    let size = record_size bytes in
-    if nat_lt (length bytes) 8 then Ok None else
-    if nat_lt size 8 then Err (TooSmall offset) else
-    if nat_lt (length bytes) size then Ok None else
-    (let found = record_from bytes offset size in with_data found size (data_behind found.kind found.payload))
+record_at bytes offset = whole_record bytes (head_at bytes offset)

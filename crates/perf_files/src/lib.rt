@@ -32,7 +32,7 @@ pub use fields::ThreadId;
 pub use header::{FileHeader, PerfHeader, read_header};
 pub use mapping::Mapping;
 pub use order::{RecordPlace, sort_by_time, time_of};
-pub use record::{Record, RecordKind, record_at};
+pub use record::{Record, RecordKind, head_at, record_at};
 pub use registers::{RegisterAbi, SavedRegisters, WalkStart};
 pub use sample::Sample;
 pub use sample_head::{SampleHead, Trailer};

@@ -1,7 +1,7 @@
 //! Records.
 
-ghost use Rattle.std.specs.Prelude.{◌≡◌, ◌≤◌, length};
-ghost use Rattle.perf_files.specs.Records.{data_behind, kind_of, record_at, record_from};
+ghost use Rattle.std.specs.Prelude.{◌≡◌, ◌≤◌, length, take};
+ghost use Rattle.perf_files.specs.Records.{data_behind, head_at, kind_of, record_at, record_from};
 ghost use Rattle.perf_files.specs.RecordViews.{record_and_size, record_seen};
 
 use crate::bytes::{u16_at, u32_at};
@@ -102,19 +102,46 @@ fn data_behind(kind: RecordKind, payload: &[u8]) -> Result<u64, FieldError>
     }
 }
 
-// The record that some bytes begin with, of this size.
+// So many of some bytes, or all.
+fn first_bytes(bytes: &[u8], size: usize) -> &[u8]
+    ensures { result.now ≡ take size bytes.now }
+{
+    if size < bytes.len() {
+        &bytes[..size]
+    } else {
+        bytes
+    }
+}
+
+// What some bytes have of the record that they begin with, which has this size.
 fn record_from(bytes: &[u8], offset: u64, size: usize) -> Record<'_>
     requires header { 8 ≤ size }
-    requires whole { size ≤ length bytes.now }
+    requires some { 8 ≤ length bytes.now }
     ensures { record_seen result ≡ record_from bytes.now offset size }
 {
-    let record = &bytes[..size];
+    let record = first_bytes(bytes, size);
     Record {
         offset,
         kind: kind_of(u32_at(bytes, 0)),
         misc: u16_at(bytes, 4),
         payload: &record[HEADER_SIZE..],
     }
+}
+
+/// What some bytes have of the record that they begin with, and the record's size in bytes; none if they are fewer than its header has.
+/// `offset` says where they begin in the recording. Fails if the size isn't one.
+#[inline]
+pub fn head_at(bytes: &[u8], offset: u64) -> Result<Option<(Record<'_>, usize)>, RecordError>
+    ensures { record_and_size result ≡ head_at bytes.now offset }
+{
+    if bytes.len() < HEADER_SIZE {
+        return Ok(None);
+    }
+    let size = usize::from(u16_at(bytes, 6));
+    if size < HEADER_SIZE {
+        return Err(RecordError::TooSmall { offset });
+    }
+    Ok(Some((record_from(bytes, offset, size), size)))
 }
 
 /// The record that some bytes begin with, and how far behind its beginning the next one begins, in bytes; none if the bytes end before
@@ -124,17 +151,14 @@ fn record_from(bytes: &[u8], offset: u64, size: usize) -> Record<'_>
 pub fn record_at(bytes: &[u8], offset: u64) -> Result<Option<(Record<'_>, u64)>, RecordError>
     ensures { record_and_size result ≡ record_at bytes.now offset }
 {
-    if bytes.len() < HEADER_SIZE {
-        return Ok(None);
-    }
-    let size = usize::from(u16_at(bytes, 6));
-    if size < HEADER_SIZE {
-        return Err(RecordError::TooSmall { offset });
-    }
+    let (record, size) = match head_at(bytes, offset) {
+        Ok(Some(head)) => head,
+        Ok(None) => return Ok(None),
+        Err(error) => return Err(error),
+    };
     if bytes.len() < size {
         return Ok(None);
     }
-    let record = record_from(bytes, offset, size);
     match data_behind(record.kind, record.payload) {
         Ok(behind) => match behind.checked_add(size as u64) {
             Some(all) => Ok(Some((record, all))),
