@@ -11,6 +11,9 @@ ROWS = TOP / "crates/cases_unwinding/data/rows.jsonl"
 ARCHITECTURES = {"x86_64": 0, "aarch64": 1}
 HAS_BYTES, HAS_RANGE, IS_SEGMENT = 1, 2, 4
 NO_MASK = "0xffffffffffffffff"
+# What a load may ask for, by the numbers of the header.
+LOOKUPS = ("auto", "index", "scan")
+CODE_RULES = ("published", "known", "ways")
 FLAGS = ["-std=c99", "-O1", "-g", "-Wall", "-Wextra", "-pedantic", "-DFRAMEHOP_REFUSES"]
 SANITIZERS = ["-fsanitize=address,undefined", "-fno-sanitize-recover=all"]
 VALGRIND = ["valgrind", "-q", "--error-exitcode=9", "--leak-check=full", "--exit-on-first-error=yes"]
@@ -74,6 +77,16 @@ def section_lines(load):
     return [section_line(it, 0) for it in load["sections"]] + [section_line(it, IS_SEGMENT) for it in load.get("segments", [])]
 
 
+def options_of(load):
+    """What a load asks for, as the numbers of the header: its lookup, whether .debug_frame is used beside, and its rules of code."""
+    return (LOOKUPS.index(load.get("lookup", "auto")), int(load.get("debug_frame_beside", False)), CODE_RULES.index(load.get("code_rules", "published")))
+
+
+def is_as_original(command):
+    """Whether a command is one that the original's crate has, too."""
+    return command.get("slots", 509) == 509 and not (command["do"] == "load" and any(options_of(command)))
+
+
 def registers_of(command, arch):
     """The four registers of a step or a walk."""
     regs = command["regs"]
@@ -94,10 +107,11 @@ def line_of(command, arch):
         return f"cache {command.get('slots', 509)}"
     if do in ("unwinder", "clone", "unload", "stats"):
         return " ".join([do, *(str(command[name]) for name in ("unwinder", "cache", "start") if name in command)])
-    if do == "load" and command.get("code_rules") != "known" and not command.get("debug_frame_beside"):
+    if do == "load":
         sections = section_lines(command)
         places = " ".join(command[name] for name in ("start", "end", "base", "base_svma"))
-        return "\n".join([f"load {command['unwinder']} {places} {len(sections)}", *sections])
+        options = " ".join(map(str, options_of(command)))
+        return "\n".join([f"load {command['unwinder']} {places} {options} {len(sections)}", *sections])
     if do == "step":
         place = 1 if command["kind"] == "ip" else 2
         return f"step {command['unwinder']} {command['cache']} {place} {command['address']} {registers_of(command, arch)} {stack_of(command)}"

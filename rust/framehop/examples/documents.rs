@@ -150,7 +150,8 @@ fn document<A: Arch>(words: &mut Words) {
             }
             "load" => {
                 let unwinder = words.number() as usize;
-                let [start, end, base, base_svma, count] = [(); 5].map(|()| words.number());
+                let [start, end, base, base_svma] = [(); 4].map(|()| words.number());
+                let [_lookup, _debug_frame_beside, _code_rules, count] = [(); 4].map(|()| words.number());
                 let section = |words: &mut Words| {
                     let (name, given) = (words.text(), words.number());
                     let range = words.number()..words.number();

@@ -159,6 +159,9 @@ static void load(void) {
     module.end = number();
     module.base = number();
     module.base_svma = number();
+    module.lookup = (uint32_t)number();
+    module.debug_frame_beside = (uint32_t)number();
+    module.code_rules = (uint32_t)number();
     module.sections = sections;
     module.section_count = (size_t)number();
     if (module.section_count > 64) exit(2);
