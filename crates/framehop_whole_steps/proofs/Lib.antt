@@ -1,0 +1,3 @@
+mod KnownCallers
+mod Knowns
+mod WholeCallers
