@@ -1,11 +1,13 @@
 pub mod AddressLookups
 pub mod Behind
+pub mod CieBytes
 pub mod CieReaders
 pub mod Each
 pub mod EntryCounts
 pub mod EntryLists
 pub mod EntryOffsets
 pub mod Kept
+pub mod KeptCies
 pub mod Laws
 pub mod LookupLaws
 pub mod LookupMemory

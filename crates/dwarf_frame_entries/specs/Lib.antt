@@ -8,6 +8,7 @@ pub mod EntryViews
 pub mod Getters
 pub mod HeadViews
 pub mod Kept
+pub mod KeptCies
 pub mod KnownCies
 pub mod LetterViews
 pub mod LookupLaws

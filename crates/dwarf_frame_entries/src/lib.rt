@@ -9,6 +9,7 @@ mod cie;
 mod entries;
 mod entry_offsets;
 mod fde;
+mod kept_cie;
 mod known_cies;
 mod lookup_laws;
 mod memory_laws;
@@ -35,6 +36,7 @@ pub use entry_offsets::{
     sections_have_no_more_entries_than_bytes,
 };
 pub use fde::{FrameDescriptionEntry, PartialFrameDescriptionEntry};
+pub use kept_cie::KeptCie;
 pub use known_cies::KnownCies;
 pub use lookup_laws::lookups_agree_if_fdes_are_read;
 pub use memory_laws::lookups_never_want_memory;
