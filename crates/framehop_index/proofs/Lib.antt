@@ -3,6 +3,7 @@ pub mod CfiIndexOrder
 pub mod EntryIndex
 pub mod EntryPlaces
 pub mod IndexSpans
+pub mod KeptCies
 pub mod PartialFdes
 pub mod Rising
 pub mod Scans

@@ -1,9 +1,13 @@
 pub mod CfiIndex
+pub mod CfiIndexCies
 pub mod CfiIndexView
 pub mod EntryFor
 pub mod FdeLookups
+pub mod FirstCies
 pub mod FrameSections
 pub mod IndexSpans
+pub mod KeptCies
+pub mod KeptFdes
 pub mod LastCie
 pub mod LeftOut
 pub mod Lookups

@@ -4,9 +4,11 @@ ghost use Rattle.std.specs.Prelude.{◌≡◌, ℕ, length, IfOk, IsTrue};
 ghost use Rattle.std.specs.List.Sorted.{IsNonDecreasingBy};
 ghost use Rattle.dwarf_frame_entries.specs.Entries.{fde_of};
 ghost use Rattle.framehop_index.specs.FrameSections.{eh_frame_of, debug_frame_of};
-ghost use Rattle.framehop_index.specs.CfiIndex.{IsMadeOf, KeepsAll, entry_held, entry_kept};
+ghost use Rattle.framehop_index.specs.CfiIndex.{IsMadeOf, entry_held, entry_kept};
+ghost use Rattle.framehop_index.specs.KeptFdes.{KeepsSection};
 ghost use Rattle.framehop_index.specs.Rising.{IsSortedFromBack, RisesBy};
 
+use crate::kept_cies::KeptCies;
 use dwarf_frame_entries::{
     BaseAddresses, DebugFrame, EhFrame, Entry, FrameDescriptionEntry, KnownCies,
     PartialFrameDescriptionEntry, UnwindSection,
@@ -68,35 +70,44 @@ fn size_of_section<R: Reader, Section: UnwindSection<R>>(section: &Section) -> u
     section.section().len().into_u64()
 }
 
-// What an index keeps of a section's FDEs, in their order, and how many it leaves out.
+// What an index keeps of a section's FDEs, in their order, how many it leaves out, and what is kept of the first CIEs.
 #[derive(Drop)]
 struct KeptFdes {
     fdes: Vec<IndexedFde>,
     left_out: usize,
+    cies: KeptCies,
 }
 
-// What an index keeps of a section's FDEs.
+// What an index keeps of a section's FDEs, and what is kept of its first CIEs.
 fn kept_fdes<R: Reader, Section: UnwindSection<R>>(
     alloc: Global,
     section: &Section,
     bases: &BaseAddresses,
     base_svma: u64,
 ) -> Result<KeptFdes, DwarfCfiIndexError>
-    ensures { IsMadeOf result (λ kept. KeepsAll kept.fdes.items kept.left_out) base_svma
-        (Section.frame section.now bases.now) }
+    ensures { IsMadeOf result KeepsSection base_svma (Section.frame section.now bases.now) }
 {
     let mut fdes = Vec::new(alloc);
     // No more are left out than there are bytes.
     let _bytes = size_of_section(section);
     let mut left_out: usize = 0;
+    let mut cies = KeptCies::new(alloc);
     let mut known = KnownCies::new(alloc, section, bases);
     let mut entries = section.entries(bases);
     'entries: loop {
         let Some(entry) = entries.next()? else {
-            return Ok(KeptFdes { fdes, left_out });
+            return Ok(KeptFdes {
+                fdes,
+                left_out,
+                cies,
+            });
         };
-        let Entry::Fde(partial) = entry else {
-            continue;
+        let partial = match entry {
+            Entry::Fde(partial) => partial,
+            Entry::Cie(cie) => {
+                cies.keep(section, &cie)?;
+                continue;
+            }
         };
         match entry_kept(&mut known, &partial, base_svma) {
             Some(kept) => {
@@ -154,6 +165,65 @@ pub struct DwarfCfiIndex {
     ghost ordered: { IsNonDecreasingBy (λ fde. fde.start) fdes.items },
 }
 
+/// An index of a section, and the CIEs that are kept of the section, by which its FDEs are read.
+#[derive(Drop)]
+pub(crate) struct IndexWithCies {
+    pub(crate) index: DwarfCfiIndex,
+    pub(crate) cies: KeptCies,
+}
+
+impl IndexWithCies {
+    ghost use Rattle.framehop_index.specs.CfiIndexCies.{IsIndexWithCies};
+
+    // The index of a section, as `DwarfCfiIndex::try_new` makes it, with the CIEs of the section.
+    fn try_new<R: Reader, Section: UnwindSection<R>>(
+        alloc: Global,
+        section: &Section,
+        bases: &BaseAddresses,
+        base_svma: u64,
+    ) -> Result<Self, DwarfCfiIndexError>
+        ensures { IsMadeOf result IsIndexWithCies base_svma
+            (Section.frame section.now bases.now) }
+    {
+        let KeptFdes {
+            fdes,
+            left_out,
+            cies,
+        } = kept_fdes(alloc, section, bases, base_svma)?;
+        let fdes = in_order(fdes)?;
+        let index = DwarfCfiIndex { fdes, left_out };
+        Ok(IndexWithCies { index, cies })
+    }
+
+    /// The same of a section `.eh_frame` of these bytes, as `DwarfCfiIndex::try_new_eh_frame` reads it.
+    pub(crate) fn try_new_eh_frame(
+        alloc: Global,
+        eh_frame_data: &[u8],
+        bases: &BaseAddresses,
+        base_svma: u64,
+    ) -> Result<Self, DwarfCfiIndexError>
+        ensures { IsMadeOf result IsIndexWithCies base_svma
+            (eh_frame_of bases.now eh_frame_data.now) }
+    {
+        let section = EhFrame::new(eh_frame_data, LittleEndian);
+        IndexWithCies::try_new(alloc, &section, bases, base_svma)
+    }
+
+    /// The same of a section `.debug_frame` of these bytes, as `DwarfCfiIndex::try_new_debug_frame` reads it.
+    pub(crate) fn try_new_debug_frame(
+        alloc: Global,
+        debug_frame_data: &[u8],
+        bases: &BaseAddresses,
+        base_svma: u64,
+    ) -> Result<Self, DwarfCfiIndexError>
+        ensures { IsMadeOf result IsIndexWithCies base_svma
+            (debug_frame_of bases.now debug_frame_data.now) }
+    {
+        let section = DebugFrame::new(debug_frame_data, LittleEndian);
+        IndexWithCies::try_new(alloc, &section, bases, base_svma)
+    }
+}
+
 impl DwarfCfiIndex {
     ghost use Rattle.dwarf_frame_rows.specs.FrameSection.{FrameSection};
     ghost use Rattle.framehop_index.specs.CfiIndexView.{IsIndexOf, IsOffsetByIndex, LeavesOut, ReadsEnough, ReadsFew};
@@ -173,9 +243,10 @@ impl DwarfCfiIndex {
         ensures { IsMadeOf result IsIndexOf base_svma
             (Section.frame section.now bases.now) }
     {
-        let KeptFdes { fdes, left_out } = kept_fdes(alloc, section, bases, base_svma)?;
-        let fdes = in_order(fdes)?;
-        Ok(DwarfCfiIndex { fdes, left_out })
+        let IndexWithCies { index, cies: _cies } = IndexWithCies::try_new(
+            alloc, section, bases, base_svma,
+        )?;
+        Ok(index)
     }
 
     /// The index of a section `.eh_frame` of these bytes, as `try_new` makes it. Numbers are
@@ -189,8 +260,13 @@ impl DwarfCfiIndex {
         ensures { IsMadeOf result IsIndexOf base_svma
             (eh_frame_of bases.now eh_frame_data.now) }
     {
-        let section = EhFrame::new(eh_frame_data, LittleEndian);
-        DwarfCfiIndex::try_new(alloc, &section, bases, base_svma)
+        let IndexWithCies { index, cies: _cies } = IndexWithCies::try_new_eh_frame(
+            alloc,
+            eh_frame_data,
+            bases,
+            base_svma,
+        )?;
+        Ok(index)
     }
 
     /// The index of a section `.debug_frame` of these bytes, as `try_new` makes it. Numbers are
@@ -204,8 +280,13 @@ impl DwarfCfiIndex {
         ensures { IsMadeOf result IsIndexOf base_svma
             (debug_frame_of bases.now debug_frame_data.now) }
     {
-        let section = DebugFrame::new(debug_frame_data, LittleEndian);
-        DwarfCfiIndex::try_new(alloc, &section, bases, base_svma)
+        let IndexWithCies { index, cies: _cies } = IndexWithCies::try_new_debug_frame(
+            alloc,
+            debug_frame_data,
+            bases,
+            base_svma,
+        )?;
+        Ok(index)
     }
 
     /// The FDEs, in the order of their starts. Of equal starts the first in the section is the last.

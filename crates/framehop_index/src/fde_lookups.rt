@@ -6,10 +6,13 @@ ghost use Rattle.dwarf_frame_entries.specs.AddressLookups.{fde_for_address_skipp
 ghost use Rattle.dwarf_frame_entries.specs.Entries.{fde_from_offset};
 ghost use Rattle.framehop_errors.specs.declared.dwarf.DwarfUnwinderError.TheVariants.{LookupAddressOverflow};
 ghost use Rattle.framehop_index.specs.FdeLookups.{fde_by_scan, fde_found, fde_scanned, near_fde};
+ghost use Rattle.framehop_errors.specs.declared.unwinder.UnwinderError.TheVariants.{DwarfCfiIndexCouldNotFindAddress};
+ghost use Rattle.framehop_index.specs.KeptCies.{AreKeptOf};
 ghost use Rattle.framehop_index.specs.Lookups.{found_by_header, parsed_header};
 ghost use Rattle.framehop_index.specs.SectionTypes.{frame_section_lent};
 
-use crate::lookups::{containing_fde, fde_at, headed_offset};
+use crate::kept_cies::KeptCies;
+use crate::lookups::{containing_fde, fde_at, fde_at_by_kept, headed_offset};
 use crate::section_type::UnwindSectionType;
 use dwarf_call_frames::{EhFrameHdr, ParsedEhFrameHdr};
 use dwarf_frame_entries::{
@@ -151,6 +154,27 @@ pub(crate) fn fde_found<R: Reader<Offset = usize>, Section: UnwindSection<R>>(
         return Err(not_found);
     };
     match fde_at(section, bases, offset) {
+        Ok(fde) => Ok(Some(fde)),
+        Err(error) => Err(UnwinderError::Dwarf(DwarfUnwinderError::FdeFromOffsetFailed(error))),
+    }
+}
+
+/// The FDE at the offset that the index of a section found, if it found one, by the CIEs that are kept of the section.
+#[inline(always)]
+pub(crate) fn fde_indexed<R: Reader<Offset = usize>, Section: UnwindSection<R>>(
+    section: &Section,
+    bases: &BaseAddresses,
+    cies: &KeptCies,
+    offset: Option<u32>,
+) -> FoundFde<R>
+    requires { AreKeptOf (Section.frame section.now bases.now) cies.now }
+    ensures { let frame = Section.frame section.now bases.now in
+        result ≡ fde_found frame DwarfCfiIndexCouldNotFindAddress offset }
+{
+    let Some(offset) = offset else {
+        return Err(UnwinderError::DwarfCfiIndexCouldNotFindAddress);
+    };
+    match fde_at_by_kept(section, bases, offset, cies) {
         Ok(fde) => Ok(Some(fde)),
         Err(error) => Err(UnwinderError::Dwarf(DwarfUnwinderError::FdeFromOffsetFailed(error))),
     }

@@ -6,6 +6,7 @@
 
 mod cfi_index;
 mod fde_lookups;
+mod kept_cies;
 mod last_cie;
 mod lookups;
 mod section_frames;

@@ -4,12 +4,16 @@ ghost use Rattle.std.specs.Prelude.{◌≡◌};
 ghost use Rattle.dwarf_endianity.specs.Answers.{Gives};
 ghost use Rattle.dwarf_frame_entries.specs.AddressLookups.{fde_for_address_skipping};
 ghost use Rattle.dwarf_frame_entries.specs.Entries.{fde_from_offset};
+ghost use Rattle.framehop_index.specs.KeptCies.{AreKeptOf};
 ghost use Rattle.framehop_index.specs.LastCie.{IsLastCie};
 ghost use Rattle.framehop_index.specs.Lookups.{headed_offset, offset_in_table};
 
+use crate::kept_cies::KeptCies;
 use crate::last_cie::{LastCie, fde_by_last};
 use dwarf_call_frames::{EhHdrTable, ParsedEhFrameHdr};
-use dwarf_frame_entries::{BaseAddresses, Entry, FrameDescriptionEntry, UnwindSection};
+use dwarf_frame_entries::{
+    BaseAddresses, Entry, FrameDescriptionEntry, UnwindOffset, UnwindSection,
+};
 use dwarf_read_core::{EndianSlice, Error, LittleEndian, Reader, ReaderOffset};
 
 // An offset in a section, in the section's type of offsets.
@@ -48,6 +52,25 @@ pub fn fde_at_by_last<R: Reader, Section: UnwindSection<R>>(
     let offset = typed_offset::<R, Section>(offset);
     let partial = section.partial_fde_from_offset(bases, offset)?;
     fde_by_last(section, bases, &partial, last)
+}
+
+/// The FDE at an offset of a section, in bytes, as [`fde_at`] gives it. Its CIE is read only if it isn't kept.
+#[inline(always)]
+pub(crate) fn fde_at_by_kept<R: Reader, Section: UnwindSection<R>>(
+    section: &Section,
+    bases: &BaseAddresses,
+    offset: u32,
+    cies: &KeptCies,
+) -> dwarf_read_core::Result<FrameDescriptionEntry<R>>
+    requires { AreKeptOf (Section.frame section.now bases.now) cies.now }
+    ensures { Gives (λ fde. fde) result (fde_from_offset (Section.frame section.now bases.now) offset) }
+{
+    let offset = typed_offset::<R, Section>(offset);
+    let partial = section.partial_fde_from_offset(bases, offset)?;
+    match cies.at(UnwindOffset::into(partial.cie_offset()).into_u64()) {
+        Some(kept) => partial.parse_by_kept(kept),
+        None => partial.parse_by_offset(),
+    }
 }
 
 // The offset of the FDE that the table of a header names for an address. Fails as

@@ -5,9 +5,10 @@ ghost use Rattle.framehop_index.specs.FdeLookups.{ByIndex};
 ghost use Rattle.dwarf_call_frames.specs.Linked.{IsKeptOf};
 ghost use Rattle.framehop_index.specs.SectionFramesViews.{AreFoundBy, MakesEntries, entries_fde, entries_view, offset_by_bytes};
 
-use crate::cfi_index::DwarfCfiIndex;
+use crate::cfi_index::{DwarfCfiIndex, IndexWithCies};
 use crate::fde_lookups::{
-    FoundFde, LentFde, fde_found, fde_found_around, lookup_address, offset_by_header, parsed_header,
+    FoundFde, LentFde, fde_found, fde_found_around, fde_indexed, lookup_address, offset_by_header,
+    parsed_header,
 };
 use crate::section_type::UnwindSectionType;
 use dwarf_call_frames::LinkedHeader;
@@ -43,8 +44,8 @@ impl<D: SectionBytes> HeaderBytes<D> {
 enum Entries<D> {
     // By the table of the section's header.
     Header(HeaderBytes<D>),
-    // By an index of the section.
-    Index(DwarfCfiIndex),
+    // By an index of the section, and the CIEs that are kept of it.
+    Index(IndexWithCies),
     // By an index, which the section doesn't have.
     Unindexed,
     // By reading the section from its first entry on.
@@ -81,7 +82,7 @@ impl<D: SectionBytes> Model for SectionFrames<D> {
 }
 
 // The lookup by an index of a section, if it has one. Fails if the index failed to allocate.
-fn index_made<D>(index: Result<DwarfCfiIndex, DwarfCfiIndexError>) -> Result<Entries<D>, AllocError>
+fn index_made<D>(index: Result<IndexWithCies, DwarfCfiIndexError>) -> Result<Entries<D>, AllocError>
     ensures view { (content : D → List ℕ)
         → IfOk result (λ entries. entries_view content entries ≡ ByIndex) }
     ensures indexed { MakesEntries index result }
@@ -164,14 +165,9 @@ fn fde_by<D: SectionBytes, R: Reader<Offset = usize>, Section: UnwindSection<R>>
                 offset,
             )
         }
-        Entries::Index(index) => {
-            let offset = index.fde_offset_for_relative_address(relative_address);
-            fde_found(
-                section,
-                bases,
-                UnwinderError::DwarfCfiIndexCouldNotFindAddress,
-                offset,
-            )
+        Entries::Index(made) => {
+            let offset = made.index.fde_offset_for_relative_address(relative_address);
+            fde_indexed(section, bases, &made.cies, offset)
         }
         Entries::Unindexed => Err(UnwinderError::DwarfCfiIndexCouldNotFindAddress),
         Entries::Scan => fde_found_around(section, bases, address),
@@ -194,10 +190,10 @@ impl<D: SectionBytes + Drop> SectionFrames<D> {
     {
         let made = match &section {
             UnwindSectionType::EhFrame(data) => {
-                DwarfCfiIndex::try_new_eh_frame(alloc, data.bytes(), bases, base_svma)
+                IndexWithCies::try_new_eh_frame(alloc, data.bytes(), bases, base_svma)
             }
             UnwindSectionType::DebugFrame(data) => {
-                DwarfCfiIndex::try_new_debug_frame(alloc, data.bytes(), bases, base_svma)
+                IndexWithCies::try_new_debug_frame(alloc, data.bytes(), bases, base_svma)
             }
         };
         let entries = index_made(made)?;
@@ -214,6 +210,7 @@ impl<D: SectionBytes> SectionFrames<D> {
     ghost use Rattle.std.specs.Prelude.{IfSome, is_some};
     ghost use Rattle.framehop_index.specs.CfiIndexView.{IsIndexOf};
     ghost use Rattle.framehop_index.specs.FdeLookups.{ByHeader, ByScan, covering_fde, covers, fde_for, is_indexed, placed, section_of};
+    ghost use Rattle.framehop_index.specs.FirstCies.{cies_kept};
     ghost use Rattle.framehop_index.specs.LeftOut.{fdes_left_out, lacks_index};
     ghost use Rattle.framehop_index.specs.SectionTypes.{frame_section_bytes};
 
@@ -278,7 +275,7 @@ impl<D: SectionBytes> SectionFrames<D> {
         ensures index { IfSome result (λ index. IsIndexOf index.now self.now.base_svma (section_of self.now)) }
     {
         match &self.entries {
-            Entries::Index(index) => Some(index),
+            Entries::Index(made) => Some(&made.index),
             Entries::Header(_) | Entries::Unindexed | Entries::Scan => None,
         }
     }
@@ -295,7 +292,18 @@ impl<D: SectionBytes> SectionFrames<D> {
         ensures { result ≡ fdes_left_out self.now }
     {
         match &self.entries {
-            Entries::Index(index) => Some(index.left_out()),
+            Entries::Index(made) => Some(made.index.left_out()),
+            Entries::Header(_) | Entries::Unindexed | Entries::Scan => None,
+        }
+    }
+
+    /// How many CIEs are kept with the index, if FDEs are found by an index and the section has one: its first 255. An FDE that names
+    /// one of them is read without reading the CIE again.
+    pub fn kept_cies(&self) -> Option<usize>
+        ensures { result ≡ cies_kept self.now }
+    {
+        match &self.entries {
+            Entries::Index(made) => Some(made.cies.count()),
             Entries::Header(_) | Entries::Unindexed | Entries::Scan => None,
         }
     }

@@ -1,8 +1,9 @@
 use Rattle.std.proofs.Common.{rules, ◌≡◌, [], ◌∷◌, ◌++◌, Ok, ap, sym, ◌∙◌, arith}
 use Rattle.dwarf_frame_entries.specs.EntryLists.{entries_of}
 use Rattle.dwarf_frame_entries.specs.declared.entries.Entry.TheVariants as which
-use Rattle.dwarf_frame_entries.proofs.Laws.{fdes_of_section, first_of_section, others_of_section}
+use Rattle.dwarf_frame_entries.proofs.Laws.{entries_there, fdes_of_section, first_of_section, others_of_section}
 use Rattle.framehop_index.proofs.CfiIndexBuild.{cie-gathered, fde-gathered, fde-left-out, none-gathered, one-more}
+use Rattle.framehop_index.proofs.KeptCies.{cie-before, fde-before, first_there, none-before, others_there}
 use Rattle.framehop_index.proofs.cfi_index.kept_fdes.Goals as goal
 
 pub entries-init : goal.entries-init
@@ -13,17 +14,23 @@ entries-init g c =
       gathered = none-gathered section c.args.base_svma c.new-fdes.result.items c.entries-entries.result.entries c.entries-entries.result.end (search rules) all (ap (λ l. l.end) c.entries-entries.ensures);
       within = rw all (fdes_of_section section);
       known = c.new-known.ensures;
+      there = rw all (entries_there section);
+      cies = none-before section c.entries-entries.result.entries c.new-cies.result all (c.new-cies.ensures section);
     }
 
-pub entries-preserved-in_default-entry : goal.entries-preserved-in_default-entry
-entries-preserved-in_default-entry g c =
+pub entries-preserved-in-Cie : goal.entries-preserved-in-Cie
+entries-preserved-in-Cie g c =
     let section = g.Section._UnwindSectionPrivate.frame c.args.section.now c.args.bases.now in
-    let list = rw (c.in-Some.is, c.in_default-entry.is) at c.in_ok-entry.ensures.list in
+    let list = rw (c.in-Some.is, c.in-Cie.is) at c.in_ok-entry.ensures.list in
     let on = rw c.in-Some.is at c.in_ok-entry.ensures.end in
     record {
       gathered = cie-gathered section c.args.base_svma c.entries.fdes.items c.entries.left_out c.entries.entries.entries c.next.new.self.entries c.entries.entries.end c.next.new.self.end _ list on c.entries.invariant.gathered;
       within = others_of_section section c.entries.entries.entries c.next.new.self.entries _ list c.entries.invariant.within;
       known = c.entries.invariant.known;
+      there = others_there section c.entries.entries.entries c.next.new.self.entries _ list c.entries.invariant.there;
+      cies = cie-before section c.entries.entries.entries c.next.new.self.entries _ c.entries.cies c.keep.new.self list
+          (λ offsets. c.in_ok-keep-in-Cie.ensures c.args.bases.now offsets (first_there section c.entries.entries.entries c.next.new.self.entries _ list c.entries.invariant.there))
+          c.entries.invariant.cies;
     }
 
 pub entry_kept-requires : goal.entry_kept-requires
@@ -45,6 +52,8 @@ entries-preserved-else-is_err g c =
           (sym (rw (g.met.Section._UnwindSectionPrivate.framed c.args.section.now c.args.bases.now) c.in-Some-entry_kept.ensures.kept)) pushed;
       within = others_of_section section c.entries.entries.entries c.next.new.self.entries _ list c.entries.invariant.within;
       known = c.entry_kept.ensures.same ∙ c.entries.invariant.known;
+      there = others_there section c.entries.entries.entries c.next.new.self.entries _ list c.entries.invariant.there;
+      cies = fde-before section c.entries.entries.entries c.next.new.self.entries c.in-Fde.partial c.entries.cies list c.entries.invariant.cies;
     }
 
 pub overflow_add-left_out : goal.overflow_add-left_out
@@ -66,4 +75,6 @@ entries-preserved g c =
           (sym (rw (g.met.Section._UnwindSectionPrivate.framed c.args.section.now c.args.bases.now) c.in-None.ensures.kept));
       within = others_of_section section c.entries.entries.entries c.next.new.self.entries _ list c.entries.invariant.within;
       known = c.entry_kept.ensures.same ∙ c.entries.invariant.known;
+      there = others_there section c.entries.entries.entries c.next.new.self.entries _ list c.entries.invariant.there;
+      cies = fde-before section c.entries.entries.entries c.next.new.self.entries c.in-Fde.partial c.entries.cies list c.entries.invariant.cies;
     }

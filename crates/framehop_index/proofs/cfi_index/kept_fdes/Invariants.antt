@@ -1,7 +1,8 @@
 use Rattle.std.proofs.Common.{◌≡◌, length}
 use Rattle.std.specs.List.{All}
-use Rattle.dwarf_frame_entries.specs.SectionFdes.{IsOfSection}
+use Rattle.dwarf_frame_entries.specs.SectionFdes.{IsOfSection, StandsThere}
 use Rattle.framehop_index.proofs.CfiIndexBuild.{Gathered}
+use Rattle.framehop_index.proofs.KeptCies.{AreKeptBefore}
 use Rattle.framehop_index.proofs.cfi_index.kept_fdes.Given as goal
 
 abbrev pub invariant-entries : goal.invariant-entries
@@ -11,6 +12,8 @@ invariant-entries g l =
       gathered : Gathered section l.base_svma l.fdes.items l.left_out l.entries.entries l.entries.end;
       within : All (IsOfSection section) l.entries.entries;
       known : l.known ≡ section.within;
+      there : All (StandsThere section) l.entries.entries;
+      cies : AreKeptBefore section l.entries.entries l.cies;
     }
 
 abbrev pub decreases-entries : goal.decreases-entries

@@ -1,6 +1,6 @@
 -- The section that is made of the bytes is that of the bytes.
 use Rattle.std.proofs.Common.{◌≡◌, ap}
-use Rattle.framehop_index.proofs.cfi_index.DwarfCfiIndex.try_new_debug_frame.Goals as goal
+use Rattle.framehop_index.proofs.cfi_index.IndexWithCies.try_new_debug_frame.Goals as goal
 
 pub returns : goal.returns
 returns c =
