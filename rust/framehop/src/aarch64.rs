@@ -112,6 +112,6 @@ impl fmt::Debug for UnwindRegsAarch64 {
 pub struct CacheAarch64<P: AllocationPolicy = MayAllocateDuringUnwind>(Mirror<[u64; 4], P>);
 
 /// An unwinder of aarch64. The bytes of its modules' sections are behind values of `D`.
-pub struct UnwinderAarch64<D, P = MayAllocateDuringUnwind>(Modules<D>, PhantomData<P>);
+pub struct UnwinderAarch64<D, P = MayAllocateDuringUnwind>(Modules<D, [u64; 4]>, PhantomData<P>);
 
 crate::architecture::of!(CacheAarch64, UnwinderAarch64, UnwindRegsAarch64);

@@ -4,14 +4,12 @@
 use crate::cache::CacheStats;
 use crate::code_address::FrameAddress;
 use crate::layout::{Frame, Handle, MappedFile, Sample, Word};
-use crate::module::LentModule;
-use crate::modules::{Change, Loaded, Modules};
+use crate::modules::{Change, Follower, Modules};
 use crate::status::{Step, done};
 use std::alloc::{Layout, alloc, dealloc, realloc};
 use std::marker::PhantomData;
 use std::ops::Deref;
-use std::ptr;
-use std::sync::Weak;
+use std::{mem, ptr};
 
 type UnwindFrame<R> = unsafe extern "C" fn(&mut Handle, &mut Frame<R>, &Sample) -> u32;
 
@@ -25,6 +23,7 @@ unsafe extern "C" {
     safe fn framehop_clone_unwinder(session: &mut Handle, unwinder: u64, clone: &mut u64) -> u32;
     safe fn framehop_remove_unwinder(session: &mut Handle, unwinder: u64) -> u32;
     safe fn framehop_add_cache(session: &mut Handle, slots: u64, cache: &mut u64) -> u32;
+    safe fn framehop_remove_cache(session: &mut Handle, cache: u64) -> u32;
     safe fn framehop_stats(session: &mut Handle, cache: u64, stats: &mut CacheStats) -> u32;
     safe fn framehop_unload(session: &mut Handle, unwinder: u64, start: u64) -> u32;
     fn framehop_load(session: &mut Handle, unwinder: u64, module: &MappedFile) -> u32;
@@ -48,26 +47,17 @@ impl Registers for [u64; 4] {
     const UNWIND_FRAME: UnwindFrame<Self> = framehop_unwind_frame_aarch64;
 }
 
-// An unwinder of a session. It has the modules of each list of its version.
-struct Follower {
-    unwinder: u64,
-    version: u64,
-    lasting: Weak<u64>,
-    loaded: Vec<Loaded>,
-}
-
-/// A session with one cache, and with an unwinder for each version of a list that the cache was used with.
+/// A session with one cache, and with an unwinder for each version of a list that the cache was used with; or none, before it follows a list.
 pub(crate) struct Session<R> {
     handle: Handle,
     cache: u64,
-    followers: Vec<Follower>,
+    followers: Vec<Follower<R>>,
     // The version that was asked for last, and its unwinder. No list has the version 0.
     last: (u64, u64),
     registers: PhantomData<R>,
 }
 
-// SAFETY: what the handle has is reached by this session's calls alone, each of which has the session alone; and bytes of modules are read
-// where a list that has them is borrowed, so on a thread that may.
+// SAFETY: this session's calls alone reach what the handle has, and each has the session alone; where bytes are read a list is borrowed.
 unsafe impl<R> Send for Session<R> {}
 
 // SAFETY: no call takes a session shared.
@@ -80,12 +70,16 @@ impl<R> Drop for Session<R> {
 }
 
 impl<R: Registers> Session<R> {
-    pub(crate) fn new() -> Self {
-        assert_eq!(framehop_version(), 0x000100, "libframehop.a is of another version than this crate");
-        let mut session = Session { handle: Handle::NONE, cache: 0, followers: Vec::new(), last: (0, 0), registers: PhantomData };
-        done(framehop_session_new(&mut session.handle, R::ARCHITECTURE));
-        done(framehop_add_cache(&mut session.handle, 509, &mut session.cache));
-        session
+    pub(crate) const NONE: Self = Session { handle: Handle::NONE, cache: 0, followers: Vec::new(), last: (0, 0), registers: PhantomData };
+
+    /// Gives what is loaded to the list that was followed last, if it is still there, and is left as `NONE`.
+    pub(crate) fn retire(&mut self) {
+        let mut session = mem::replace(self, Session::NONE);
+        let followed = session.followers.iter().find(|it| it.version == session.last.0);
+        if let Some(version) = followed.and_then(|it| it.lasting.upgrade()) {
+            done(framehop_remove_cache(&mut session.handle, session.cache));
+            version.keep(session);
+        }
     }
 
     pub(crate) fn stats(&mut self) -> CacheStats {
@@ -94,38 +88,48 @@ impl<R: Registers> Session<R> {
         stats
     }
 
-    // The modules are a clone's of the unwinder that has most of them, with what is missing or too much. Unwinders of versions that are
-    // gone are let go.
+    // Makes a clone of the unwinder that has most of the modules, and changes it. Unwinders of versions that are gone are let go.
     #[cold]
-    fn make_follower<D: Deref<Target = [u8]>>(&mut self, modules: &Modules<D>) -> u64 {
-        let nearest = self.followers.iter().max_by_key(|it| modules.count_of(&it.loaded)).filter(|it| modules.count_of(&it.loaded) > 0);
+    fn make_follower<D: Deref<Target = [u8]>>(&mut self, modules: &Modules<D, R>) -> u64 {
+        let nearest = modules.nearest_of(&self.followers);
         let mut unwinder = 0;
         done(match nearest {
             Some(it) => framehop_clone_unwinder(&mut self.handle, it.unwinder, &mut unwinder),
             None => framehop_add_unwinder(&mut self.handle, &mut unwinder),
         });
         for change in modules.changes_from(nearest.map_or(&[], |it| &it.loaded)) {
-            match change {
-                Change::Unload(start) => done(framehop_unload(&mut self.handle, unwinder, start)),
-                Change::Load(module) => self.load(unwinder, module),
-            }
+            done(match change {
+                Change::Unload(start) => framehop_unload(&mut self.handle, unwinder, start),
+                Change::Load(module) => {
+                    let sections = module.sections();
+                    // SAFETY: the sections and their bytes are borrowed for the call. Later calls read bytes in steps of the unwinder: see there.
+                    unsafe { framehop_load(&mut self.handle, unwinder, &module.with_sections(&sections)) }
+                }
+            });
         }
         self.followers.retain(|it| it.lasting.strong_count() > 0 || framehop_remove_unwinder(&mut self.handle, it.unwinder) != 0);
-        self.followers.push(Follower { unwinder, version: modules.version(), lasting: modules.lasting(), loaded: modules.loaded() });
+        self.followers.push(modules.follower(unwinder));
         unwinder
     }
 
-    fn load<D: Deref<Target = [u8]>>(&mut self, unwinder: u64, module: &LentModule<D>) {
-        let sections = module.sections();
-        // SAFETY: the sections and their bytes are borrowed for the call. Later calls read the bytes in steps of the unwinder alone: see there.
-        done(unsafe { framehop_load(&mut self.handle, unwinder, &module.with_sections(&sections)) });
+    #[cold]
+    fn turn_to<D: Deref<Target = [u8]>>(&mut self, modules: &Modules<D, R>) {
+        if self.handle.is_none() {
+            assert_eq!(framehop_version(), 0x000100, "libframehop.a is of another version than this crate");
+            match modules.spare_session() {
+                Some(session) => *self = session,
+                None => done(framehop_session_new(&mut self.handle, R::ARCHITECTURE)),
+            }
+            done(framehop_add_cache(&mut self.handle, 509, &mut self.cache));
+        }
+        let there = self.followers.iter().find(|it| it.version == modules.version()).map(|it| it.unwinder);
+        self.last = (modules.version(), there.unwrap_or_else(|| self.make_follower(modules)));
     }
 
     #[inline(always)]
-    pub(crate) fn follow<D: Deref<Target = [u8]>>(&mut self, modules: &Modules<D>) -> u64 {
+    pub(crate) fn follow<D: Deref<Target = [u8]>>(&mut self, modules: &Modules<D, R>) -> u64 {
         if self.last.0 != modules.version() {
-            let there = self.followers.iter().find(|it| it.version == modules.version()).map(|it| it.unwinder);
-            self.last = (modules.version(), there.unwrap_or_else(|| self.make_follower(modules)));
+            self.turn_to(modules);
         }
         self.last.1
     }
@@ -134,7 +138,7 @@ impl<R: Registers> Session<R> {
     #[inline]
     pub(crate) fn step<D: Deref<Target = [u8]>>(
         &mut self,
-        modules: &Modules<D>,
+        modules: &Modules<D, R>,
         address: FrameAddress,
         frame: &mut Frame<R>,
         known: &[Word],

@@ -12,7 +12,7 @@ pub trait AllocationPolicy: sealed::Policy {}
 pub struct MayAllocateDuringUnwind;
 
 /// Steps allocate nothing here, and in the library only the values of an expression: one that reads more than 256 words of the stack fails with
-/// `CouldNotReadStack`. The first step with a cache after the unwinder's modules were changed does allocate, unless the cache was
+/// `CouldNotReadStack`. The first step with a cache, or after the unwinder's modules were changed, does allocate, unless the cache was
 /// [prepared](crate::x86_64::CacheX86_64::prepare).
 pub struct MustNotAllocateDuringUnwind;
 

@@ -116,7 +116,7 @@ impl Habits {
 
     /// What is known of a step by these modules.
     #[inline(always)]
-    pub(crate) fn of<D>(&mut self, modules: &Modules<D>, frame: FrameAddress) -> &mut Habit {
+    pub(crate) fn of<D, R>(&mut self, modules: &Modules<D, R>, frame: FrameAddress) -> &mut Habit {
         let address = frame.address_for_lookup();
         let kind = modules.version() << 1 | u64::from(frame.is_return_address());
         let habit = &mut self.0[(address % SLOTS as u64) as usize];

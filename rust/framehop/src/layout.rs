@@ -12,6 +12,10 @@ pub(crate) struct Handle(*mut c_void);
 impl Handle {
     /// `FRAMEHOP_NO_SESSION`.
     pub(crate) const NONE: Handle = Handle(ptr::null_mut());
+
+    pub(crate) fn is_none(&self) -> bool {
+        self.0.is_null()
+    }
 }
 
 /// `framehop_bytes`.

@@ -5,7 +5,7 @@
 //! its answers are one map of words, whatever the closure does.
 //!
 //! A cache has a session of the library, in which the unwinders that it is used with are mirrored. Sessions share nothing, so that threads
-//! with a cache each never wait for each other.
+//! with a cache each don't wait for each other in steps. The session of a cache that is dropped stays with the unwinder for a new one.
 //!
 //! ```
 //! use framehop::x86_64::{CacheX86_64, UnwindRegsX86_64, UnwinderX86_64};

@@ -15,7 +15,7 @@ use std::ops::Deref;
 const ROOM: usize = 256;
 
 /// A session, in which the unwinders that a cache is used with are mirrored.
-pub(crate) struct Mirror<R, P> {
+pub(crate) struct Mirror<R: Registers, P> {
     session: Session<R>,
     habits: Habits,
     known: KnownWords<P>,
@@ -43,7 +43,7 @@ impl<P: AllocationPolicy> KnownWords<P> {
 impl<R: Registers + Pointing, P: AllocationPolicy> Mirror<R, P> {
     pub(crate) fn new() -> Self {
         let known = KnownWords { words: Vec::with_capacity(ROOM), policy: PhantomData };
-        Mirror { session: Session::new(), habits: Habits::new(), known, stats: CacheStats::new() }
+        Mirror { session: Session::NONE, habits: Habits::new(), known, stats: CacheStats::new() }
     }
 
     pub(crate) fn stats(&self) -> CacheStats {
@@ -51,14 +51,14 @@ impl<R: Registers + Pointing, P: AllocationPolicy> Mirror<R, P> {
     }
 
     /// Loads what the next step by these modules would load.
-    pub(crate) fn prepare<D: Deref<Target = [u8]>>(&mut self, modules: &Modules<D>) {
+    pub(crate) fn prepare<D: Deref<Target = [u8]>>(&mut self, modules: &Modules<D, R>) {
         self.session.follow(modules);
     }
 
     #[inline]
     pub(crate) fn step<D: Deref<Target = [u8]>, F: FnMut(u64) -> Result<u64, ()>>(
         &mut self,
-        modules: &Modules<D>,
+        modules: &Modules<D, R>,
         address: FrameAddress,
         frame: &mut Frame<R>,
         read_stack: &mut F,
@@ -86,10 +86,16 @@ impl<R: Registers + Pointing, P: AllocationPolicy> Mirror<R, P> {
     }
 }
 
+impl<R: Registers, P> Drop for Mirror<R, P> {
+    fn drop(&mut self) {
+        self.session.retire();
+    }
+}
+
 /// A step that asks for words, and is made again with each.
 struct Asking<'a, D, R, P> {
     session: &'a mut Session<R>,
-    modules: &'a Modules<D>,
+    modules: &'a Modules<D, R>,
     address: FrameAddress,
     known: &'a mut KnownWords<P>,
 }
@@ -124,6 +130,7 @@ impl<D: Deref<Target = [u8]>, R: Registers + Pointing, P: AllocationPolicy> Aski
         read_stack: &mut F,
     ) -> Result<Option<u64>, Error> {
         let pointers = frame.registers.pointers();
+        self.session.follow(self.modules);
         let before = if habit.finds() { None } else { Some(self.session.stats()) };
         self.known.words.clear();
         let first = self.step(frame);

@@ -1,39 +1,71 @@
 //! Lists of modules, as unwinders have them.
 
+use crate::c::Session;
 use crate::module::LentModule;
 use std::collections::BTreeMap;
+use std::mem;
 use std::sync::atomic::{AtomicU64, Ordering};
-use std::sync::{Arc, Weak};
+use std::sync::{Arc, Mutex, MutexGuard, PoisonError, Weak};
 
 /// The modules of an unwinder, sorted by their starts. Of equal starts the last added comes first.
 ///
 /// Two lists of one version have the same modules: a change makes another version, and a clone has that of its original.
-pub(crate) struct Modules<D> {
+pub(crate) struct Modules<D, R> {
     sorted: Vec<Arc<LentModule<D>>>,
-    version: Arc<u64>,
+    version: Arc<Version<R>>,
 }
 
-// A number that no other version has.
-fn new_version() -> Arc<u64> {
-    static NEXT: AtomicU64 = AtomicU64::new(1);
-
-    Arc::new(NEXT.fetch_add(1, Ordering::Relaxed))
+/// A version of a list, with sessions whose caches are gone, so that a new cache loads nothing anew.
+pub(crate) struct Version<R> {
+    number: u64,
+    spare: Mutex<Vec<Session<R>>>,
 }
 
-impl<D> Clone for Modules<D> {
+/// How many sessions are kept for new caches.
+const MOST_SPARE: usize = 8;
+
+impl<R> Version<R> {
+    // With a number that no other version has.
+    fn new(spare: Vec<Session<R>>) -> Arc<Self> {
+        static NEXT: AtomicU64 = AtomicU64::new(1);
+
+        Arc::new(Version { number: NEXT.fetch_add(1, Ordering::Relaxed), spare: Mutex::new(spare) })
+    }
+
+    fn spare(&self) -> MutexGuard<'_, Vec<Session<R>>> {
+        self.spare.lock().unwrap_or_else(PoisonError::into_inner)
+    }
+
+    /// Keeps a session without a cache, if there is room for it.
+    pub(crate) fn keep(&self, session: Session<R>) {
+        let mut spare = self.spare();
+        if spare.len() < MOST_SPARE {
+            spare.push(session);
+        }
+    }
+}
+
+impl<D, R> Clone for Modules<D, R> {
     fn clone(&self) -> Self {
         Modules { sorted: self.sorted.clone(), version: self.version.clone() }
     }
 }
 
-impl<D> Modules<D> {
+impl<D, R> Modules<D, R> {
     pub(crate) fn new() -> Self {
-        Modules { sorted: Vec::new(), version: new_version() }
+        Modules { sorted: Vec::new(), version: Version::new(Vec::new()) }
+    }
+
+    // Makes another version. It has the sessions of the one before, if no other list has that.
+    fn renew(&mut self) {
+        let is_alone = Arc::strong_count(&self.version) == 1;
+        let spare = if is_alone { mem::take(&mut *self.version.spare()) } else { Vec::new() };
+        self.version = Version::new(spare);
     }
 
     pub(crate) fn add(&mut self, module: Arc<LentModule<D>>) {
         let place = self.sorted.partition_point(|it| it.start() < module.start());
-        self.version = new_version();
+        self.renew();
         self.sorted.insert(place, module);
     }
 
@@ -41,7 +73,7 @@ impl<D> Modules<D> {
     pub(crate) fn remove(&mut self, start: u64) {
         let after = self.sorted.partition_point(|it| it.start() <= start);
         if after > 0 && self.sorted[after - 1].start() == start {
-            self.version = new_version();
+            self.renew();
             self.sorted.remove(after - 1);
         }
     }
@@ -53,13 +85,28 @@ impl<D> Modules<D> {
     /// The number of the version.
     #[inline(always)]
     pub(crate) fn version(&self) -> u64 {
-        *self.version
+        self.version.number
     }
 
-    /// What tells whether a list of the version is still there.
-    pub(crate) fn lasting(&self) -> Weak<u64> {
-        Arc::downgrade(&self.version)
+    /// A session that the last caches left, if there is one.
+    pub(crate) fn spare_session(&self) -> Option<Session<R>> {
+        self.version.spare().pop()
     }
+
+    /// An unwinder of a session that has the modules.
+    pub(crate) fn follower(&self, unwinder: u64) -> Follower<R> {
+        let loaded = self.sorted.iter().map(|it| it.loaded()).collect();
+        Follower { unwinder, version: self.version(), lasting: Arc::downgrade(&self.version), loaded }
+    }
+}
+
+/// An unwinder of a session. It has the modules of each list of its version.
+pub(crate) struct Follower<R> {
+    pub(crate) unwinder: u64,
+    pub(crate) version: u64,
+    /// What tells whether a list of the version is still there.
+    pub(crate) lasting: Weak<Version<R>>,
+    pub(crate) loaded: Vec<Loaded>,
 }
 
 /// What tells a module that is loaded: its start, and a number that no other module has.
@@ -78,9 +125,14 @@ pub(crate) enum Change<'a, D> {
 
 type ByStart<'a, D> = BTreeMap<u64, (Vec<Loaded>, Vec<&'a LentModule<D>>)>;
 
-impl<D> Modules<D> {
-    /// How many of the list are loaded there.
-    pub(crate) fn count_of(&self, loaded: &[Loaded]) -> usize {
+impl<D, R> Modules<D, R> {
+    /// The unwinder that has most of the list, if one has any.
+    pub(crate) fn nearest_of<'a>(&self, followers: &'a [Follower<R>]) -> Option<&'a Follower<R>> {
+        followers.iter().max_by_key(|it| self.count_of(&it.loaded)).filter(|it| self.count_of(&it.loaded) > 0)
+    }
+
+    // How many of the list are loaded there.
+    fn count_of(&self, loaded: &[Loaded]) -> usize {
         let there = loaded.iter().filter(|it| {
             let place = self.sorted.partition_point(|other| other.start() < it.start);
             self.sorted[place..].iter().take_while(|other| other.start() == it.start).any(|other| other.loaded() == **it)
@@ -110,10 +162,5 @@ impl<D> Modules<D> {
             changes.extend(group.1.into_iter().rev().map(Change::Load));
         }
         changes
-    }
-
-    /// What is loaded once the list is.
-    pub(crate) fn loaded(&self) -> Vec<Loaded> {
-        self.sorted.iter().map(|it| it.loaded()).collect()
     }
 }

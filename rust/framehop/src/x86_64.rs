@@ -103,6 +103,6 @@ impl fmt::Debug for UnwindRegsX86_64 {
 pub struct CacheX86_64<P: AllocationPolicy = MayAllocateDuringUnwind>(Mirror<[u64; 17], P>);
 
 /// An unwinder of x86_64. The bytes of its modules' sections are behind values of `D`.
-pub struct UnwinderX86_64<D, P = MayAllocateDuringUnwind>(Modules<D>, PhantomData<P>);
+pub struct UnwinderX86_64<D, P = MayAllocateDuringUnwind>(Modules<D, [u64; 17]>, PhantomData<P>);
 
 crate::architecture::of!(CacheX86_64, UnwinderX86_64, UnwindRegsX86_64);

@@ -232,6 +232,35 @@ fn stats_count_each_step_once() {
 }
 
 #[test]
+fn caches_one_after_the_other_are_each_new() {
+    let count = Arc::default();
+    let mut unwinder = UnwinderX86_64::new();
+    for round in 0..40 {
+        let start = 0x10000 * (1 + round % 3);
+        unwinder.remove_module(start);
+        unwinder.add_module(module(start, counted(16 + 8 * (round % 5) as u8, &count)));
+        let other = unwinder.clone();
+        let mut anew = UnwinderX86_64::new();
+        anew.add_module(module(start, counted(16 + 8 * (round % 5) as u8, &count)));
+        let wanted = step(&anew, &mut CacheX86_64::new(), start + 0x1000);
+        // More at a time than are kept for others.
+        let mut caches: Vec<_> = (0..12).map(|_| CacheX86_64::new()).collect();
+        for cache in &mut caches {
+            assert_eq!(step(&unwinder, cache, start + 0x1000), wanted);
+            assert_eq!(step(&other, cache, start + 0x1000), wanted);
+            assert_eq!((cache.stats().hits(), cache.stats().miss_empty_slot_count, cache.stats().total()), (1, 1, 2));
+        }
+        let threads = caches.into_iter().map(|mut cache| {
+            let unwinder = other.clone();
+            std::thread::spawn(move || step(&unwinder, &mut cache, start + 0x1000))
+        });
+        assert!(threads.collect::<Vec<_>>().into_iter().all(|it| it.join().unwrap() == wanted));
+    }
+    drop(unwinder);
+    assert_eq!(count.load(Ordering::SeqCst), 0);
+}
+
+#[test]
 fn prepared_caches_give_the_same_steps() {
     let mut unwinder = UnwinderX86_64::new();
     unwinder.add_module(module(0x10000, eh_frame(16)));
