@@ -26,12 +26,12 @@ SLOTS = 509
 # The most bytes of a document, as ./unwind takes it.
 LONGEST = 1 << 24
 
-# A machine: its name, the names of the first frame's registers and of readelf's, how many bytes an instruction has at least, and a CIE
-# without an augmentation.
-Machine = collections.namedtuple("Machine", "name registers sp fp width cie")
+# A machine: its name, the names of the first frame's registers and of readelf's, how many bytes an instruction has at least, and a call, and
+# a CIE without an augmentation.
+Machine = collections.namedtuple("Machine", "name registers sp fp width call cie")
 MACHINES = {machine.name: machine for machine in (
-    Machine("x86_64", ("ip", "sp", "bp"), "rsp", "rbp", 1, bytes.fromhex("100000000000000001000178100c070890010000")),
-    Machine("aarch64", ("lr", "sp", "fp"), "sp", "x29", 4, bytes.fromhex("1000000000000000010004781e0c1f0000000000")),
+    Machine("x86_64", ("ip", "sp", "bp"), "rsp", "rbp", 1, 5, bytes.fromhex("100000000000000001000178100c070890010000")),
+    Machine("aarch64", ("lr", "sp", "fp"), "sp", "x29", 4, 4, bytes.fromhex("1000000000000000010004781e0c1f0000000000")),
 )}
 
 # The opcodes of moves with an operand of its own, of one, two and four bytes.
@@ -128,8 +128,9 @@ def header_made(header_at, at, cie, section):
     return b"".join(parts + [struct.pack("<ii", *row) for row in sorted(rows)])
 
 
-def frames_of(library, machine, start, end, chance):
-    """Frames at addresses between two, drawn from FDEs that are drawn, if the row says where the return address is stored."""
+def frames_of(library, machine, start, end, chance, length):
+    """Frames at addresses between two, drawn from FDEs that are drawn, if the row says where the return address is stored, and is that of the
+    last byte of a call of so many bytes too."""
     fdes = [fde for fde in readelf.fdes(library, rows_of_cies=True) if start <= fde.start and fde.start + 16 <= fde.end <= end]
     found = []
     for _ in range(50 * FRAMES):
@@ -138,6 +139,8 @@ def frames_of(library, machine, start, end, chance):
         fde = chance.choice(fdes)
         address = chance.randrange(fde.start, fde.end, machine.width)
         row = fde.row(address)
+        if address + length > fde.end or fde.row(address + length - 1) != row:
+            continue
         base, _, size = row.cfa.partition("+")
         below = [re.fullmatch(r"(?:c-(\d+)|u)", row.rules.get(name, "u")) for name in ("ra", machine.fp)]
         if base not in (machine.sp, machine.fp) or not size or None in below:
@@ -148,8 +151,9 @@ def frames_of(library, machine, start, end, chance):
     return found
 
 
-def stack_of(chain, machine, chance):
-    """A walk's instruction pointer, registers and words, if each frame of the chain called the next. The outermost returns to 0."""
+def stack_of(chain, machine, chance, length):
+    """A walk's instruction pointer, registers and words, if each frame of the chain called the next by a call of so many bytes. The outermost
+    returns to 0."""
     pc, sp, fp, return_address, stored = 0, STACK, 0, 0, {}
     for frame in chain:
         cfa = sp
@@ -159,7 +163,7 @@ def stack_of(chain, machine, chance):
             fp = cfa - frame.size
         sp = cfa - frame.size - (16 * chance.randrange(1, 9) if frame.by_fp else 0)
         pc = BASE + frame.address
-        return_address = pc + machine.width
+        return_address = pc + length
     code = pc if machine.name == "x86_64" else return_address
     return pc, (code, sp, fp), sp, [stored.get(at, 0x1000 + at % 0x1000) for at in range(sp, STACK, 8)]
 
@@ -168,7 +172,7 @@ def apart(frames, machine):
     """Those of some frames that no other of them shares a slot of a cache with, as first and as later frames."""
     found, taken = [], set()
     for frame in frames:
-        slots = {(BASE + frame.address) % SLOTS, (BASE + frame.address + machine.width - 1) % SLOTS}
+        slots = {(BASE + frame.address) % SLOTS, (BASE + frame.address + machine.call - 1) % SLOTS}
         if taken.isdisjoint(slots):
             found.append(frame)
             taken |= slots
@@ -176,12 +180,15 @@ def apart(frames, machine):
 
 
 def walks_of(library, machine, start, end, is_apart):
-    """Walks over stacks of which the outer halves are the same."""
+    """Walks over stacks of which the outer halves are the same. If a cache is to have room for all their rules, a call is longer than one
+    byte: else an address is that of first frames and of later ones, whose rules differ."""
     chance = random.Random(1)
-    frames = frames_of(library, machine, start, end, chance)
+    length = machine.call if is_apart else machine.width
+    frames = frames_of(library, machine, start, end, chance, length)
     frames = apart(frames, machine) if is_apart else frames
     shared = chance.choices(frames, k=DEPTH // 2)
-    return [(*stack_of(shared + chance.choices(frames, k=DEPTH - len(shared)), machine, chance), 2 * DEPTH) for _ in range(WALKS)]
+    chains = (shared + chance.choices(frames, k=DEPTH - len(shared)) for _ in range(WALKS))
+    return [(*stack_of(chain, machine, chance, length), 2 * DEPTH) for chain in chains]
 
 
 def steps_of(fdes, machine):
