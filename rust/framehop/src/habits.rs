@@ -5,7 +5,6 @@
 
 use crate::code_address::FrameAddress;
 use crate::layout::Word;
-use crate::modules::Modules;
 
 /// As many as a cache has.
 const SLOTS: usize = 509;
@@ -41,53 +40,15 @@ impl Pointing for [u64; 4] {
     }
 }
 
-/// Which registers lead to a word.
+/// What is known of where the words are that such steps read.
 #[derive(Clone, Copy, PartialEq, Eq)]
-enum Way {
-    /// Both have so far: nothing tells which of them the rule goes by.
-    Both,
-    /// The stack pointer.
-    Sp,
-    /// The frame pointer.
-    Fp,
-}
-
-/// How far a word is from the registers, and which of them lead to it.
-#[derive(Clone, Copy)]
-struct Place {
-    from_sp: i64,
-    from_fp: i64,
-    way: Way,
-}
-
-impl Place {
-    const NONE: Place = Place { from_sp: 0, from_fp: 0, way: Way::Both };
-
-    /// The place of a word that one step read.
-    fn of(address: u64, pointers: Pointers) -> Place {
-        let distance = |from: u64| address.wrapping_sub(from).cast_signed();
-        Place { from_sp: distance(pointers.sp), from_fp: distance(pointers.fp), way: Way::Both }
-    }
-
-    /// The place of a word that two steps read, if it was at one distance from one of the registers, and at several from the other.
-    fn joined(before: &Place, now: &Place) -> Option<Place> {
-        let way = match (before.from_sp == now.from_sp, before.from_fp == now.from_fp) {
-            (true, false) => Way::Sp,
-            (false, true) => Way::Fp,
-            _ => return None,
-        };
-        Some(Place { way, ..*now })
-    }
-
-    /// The address of the word, if it is known, and in the part of the stack that is in use.
-    #[inline(always)]
-    fn address(&self, pointers: Pointers) -> Option<u64> {
-        let by_sp = pointers.sp.wrapping_add_signed(self.from_sp);
-        let by_fp = pointers.fp.wrapping_add_signed(self.from_fp);
-        let address = if self.way == Way::Fp { by_fp } else { by_sp };
-        let is_known = address >= pointers.sp && (self.way != Way::Both || by_sp == by_fp);
-        is_known.then_some(address)
-    }
+enum Knowledge {
+    /// Nothing.
+    Nothing,
+    /// How far they were from the stack pointer in one step. They are there again if the frame pointer is as far from it.
+    Once,
+    /// How far they are from the stack pointer or the frame pointer: several steps told which.
+    Told,
 }
 
 /// What the last step of a slot was, and what was learned of such steps.
@@ -96,14 +57,16 @@ pub(crate) struct Habit {
     address: u64,
     /// Twice the version, and one more for a return address.
     kind: u64,
+    /// How far the frame pointer was from the stack pointer.
+    apart: u64,
+    /// How far words are from the registers that lead to them.
+    distances: [u64; READS],
+    are_by_fp: [bool; READS],
+    /// How many words such steps read.
+    count: u8,
+    known: Knowledge,
     /// Whether the next such step finds its rule.
     finds: bool,
-    /// Whether one such step told where it reads, and several did.
-    is_learned: bool,
-    is_joined: bool,
-    /// How many words such steps read.
-    count: usize,
-    places: [Place; READS],
 }
 
 /// The habits of a cache.
@@ -114,11 +77,11 @@ impl Habits {
         Habits(Box::new([Habit::new(0, 0); SLOTS]))
     }
 
-    /// What is known of a step by these modules.
+    /// What is known of a step by modules of a version.
     #[inline(always)]
-    pub(crate) fn of<D, R>(&mut self, modules: &Modules<D, R>, frame: FrameAddress) -> &mut Habit {
+    pub(crate) fn of(&mut self, version: u64, frame: FrameAddress) -> &mut Habit {
         let address = frame.address_for_lookup();
-        let kind = modules.version() << 1 | u64::from(frame.is_return_address());
+        let kind = version << 1 | u64::from(frame.is_return_address());
         let habit = &mut self.0[(address % SLOTS as u64) as usize];
         if habit.address != address || habit.kind != kind {
             *habit = Habit::new(address, kind);
@@ -143,11 +106,19 @@ impl Foreseen {
 
 impl Habit {
     fn new(address: u64, kind: u64) -> Habit {
-        Habit { address, kind, finds: false, is_learned: false, is_joined: false, count: 0, places: [Place::NONE; READS] }
+        Habit {
+            address,
+            kind,
+            apart: 0,
+            distances: [0; READS],
+            are_by_fp: [false; READS],
+            count: 0,
+            known: Knowledge::Nothing,
+            finds: false,
+        }
     }
 
     /// Whether the step surely finds its rule.
-    #[inline(always)]
     pub(crate) fn finds(&self) -> bool {
         self.finds
     }
@@ -157,19 +128,22 @@ impl Habit {
         self.finds = finds;
     }
 
-    /// The words that the step will read, if they are known.
+    /// The words that the step will read, if it surely finds its rule, and they are known and in the part of the stack that is in use.
     #[inline(always)]
     pub(crate) fn foreseen(&self, pointers: Pointers) -> Option<Foreseen> {
-        if !self.is_learned {
+        let Pointers { sp, fp } = pointers;
+        let is_known = match self.known {
+            Knowledge::Nothing => false,
+            Knowledge::Once => fp.wrapping_sub(sp) == self.apart,
+            Knowledge::Told => true,
+        };
+        if !(self.finds && is_known) {
             return None;
         }
-        let mut addresses = [0; READS];
-        for number in 0..READS {
-            if number < self.count {
-                addresses[number] = self.places[number].address(pointers)?;
-            }
-        }
-        Some(Foreseen { count: self.count.min(READS), addresses })
+        let from = |is_by_fp| if is_by_fp { fp } else { sp };
+        let addresses = std::array::from_fn(|it| from(self.are_by_fp[it]).wrapping_add(self.distances[it]));
+        let is_in_use = addresses.iter().all(|it| *it >= sp);
+        is_in_use.then_some(Foreseen { count: usize::from(self.count).min(READS), addresses })
     }
 
     /// Learns from a step that asked for these words.
@@ -177,24 +151,37 @@ impl Habit {
         if asked.len() > READS {
             return self.forget();
         }
-        let mut now = [Place::NONE; READS];
-        for (place, word) in now.iter_mut().zip(asked) {
-            *place = Place::of(word.address(), pointers);
+        let before = *self;
+        self.apart = pointers.fp.wrapping_sub(pointers.sp);
+        self.count = asked.len() as u8;
+        self.known = Knowledge::Once;
+        self.distances = [0; READS];
+        self.are_by_fp = [false; READS];
+        for (distance, word) in self.distances.iter_mut().zip(asked) {
+            *distance = word.address().wrapping_sub(pointers.sp);
         }
-        let mut joined = now;
-        let has_two = self.is_learned && !self.is_joined && self.count == asked.len();
-        self.is_joined = has_two
-            && joined.iter_mut().zip(&self.places).take(self.count).all(|(it, before)| {
-                let place = Place::joined(before, it);
-                *it = place.unwrap_or(*it);
-                place.is_some()
-            });
-        self.places = if self.is_joined { joined } else { now };
-        (self.count, self.is_learned) = (asked.len(), true);
+        if before.known == Knowledge::Once && before.count == self.count {
+            self.join(&before);
+        }
+    }
+
+    // Learns which registers lead to the words, if each was at one distance from one of them in two steps, and at several from the other.
+    fn join(&mut self, before: &Habit) {
+        let mut told = *self;
+        told.known = Knowledge::Told;
+        for it in 0..usize::from(self.count) {
+            let from_fp = |habit: &Habit| habit.distances[it].wrapping_sub(habit.apart);
+            match (self.distances[it] == before.distances[it], from_fp(self) == from_fp(before)) {
+                (true, false) => {}
+                (false, true) => (told.distances[it], told.are_by_fp[it]) = (from_fp(self), true),
+                _ => return,
+            }
+        }
+        *self = told;
     }
 
     /// Forgets which words are read.
     pub(crate) fn forget(&mut self) {
-        (self.is_learned, self.is_joined) = (false, false);
+        self.known = Knowledge::Nothing;
     }
 }

@@ -4,7 +4,7 @@ use crate::c::{Registers, Session};
 use crate::cache::{AllocationPolicy, CacheStats};
 use crate::code_address::FrameAddress;
 use crate::error::Error;
-use crate::habits::{Habit, Habits, Pointing, READS};
+use crate::habits::{Foreseen, Habit, Habits, Pointing, READS};
 use crate::layout::{Frame, Word};
 use crate::modules::Modules;
 use crate::status::Step;
@@ -25,11 +25,27 @@ pub(crate) struct Mirror<R: Registers, P> {
 
 /// The words that a step has asked for.
 struct KnownWords<P> {
+    /// Those that were foreseen.
+    first: [Word; READS],
     words: Vec<Word>,
     policy: PhantomData<P>,
 }
 
 impl<P: AllocationPolicy> KnownWords<P> {
+    /// Asks for the words that a step will read, up to one that can't be read.
+    #[inline(always)]
+    fn ask_first<F: FnMut(u64) -> Result<u64, ()>>(&mut self, foreseen: &Foreseen, read_stack: &mut F) -> &[Word] {
+        let mut count = 0;
+        for (word, address) in self.first.iter_mut().zip(foreseen.addresses()) {
+            *word = Word::of(*address, read_stack(*address));
+            count += 1;
+            if !word.is_readable() {
+                break;
+            }
+        }
+        &self.first[..count]
+    }
+
     /// Asks for a word, unless there is no room for it.
     fn ask<F: FnMut(u64) -> Result<u64, ()>>(&mut self, address: u64, read_stack: &mut F) -> Result<(), Error> {
         if self.words.len() >= ROOM && !P::MAY_ALLOCATE {
@@ -42,7 +58,7 @@ impl<P: AllocationPolicy> KnownWords<P> {
 
 impl<R: Registers + Pointing, P: AllocationPolicy> Mirror<R, P> {
     pub(crate) fn new() -> Self {
-        let known = KnownWords { words: Vec::with_capacity(ROOM), policy: PhantomData };
+        let known = KnownWords { first: [Word::NONE; READS], words: Vec::with_capacity(ROOM), policy: PhantomData };
         Mirror { session: Session::NONE, habits: Habits::new(), known, stats: CacheStats::new() }
     }
 
@@ -64,24 +80,18 @@ impl<R: Registers + Pointing, P: AllocationPolicy> Mirror<R, P> {
         read_stack: &mut F,
     ) -> Result<Option<u64>, Error> {
         let Mirror { session, habits, known, stats } = self;
-        let habit = habits.of(modules, address);
-        let foreseen = if habit.finds() { habit.foreseen(frame.registers.pointers()) } else { None };
-        let Some(foreseen) = foreseen else {
+        let habit = habits.of(modules.version(), address);
+        let Some(foreseen) = habit.foreseen(frame.registers.pointers()) else {
             return Asking { session, modules, address, known }.from_none(habit, stats, frame, read_stack);
         };
         stats.hit_count += 1;
-        let mut words = [Word::NONE; READS];
-        let mut count = 0;
-        for (word, address) in words.iter_mut().zip(foreseen.addresses()) {
-            *word = Word::of(*address, read_stack(*address));
-            count += 1;
-            if !word.is_readable() {
-                break;
-            }
-        }
-        match session.step(modules, address, frame, &words[..count]) {
+        let words = known.ask_first(&foreseen, read_stack);
+        match session.step(modules, address, frame, words) {
             Step::Answered(answer) => answer,
-            Step::NeedsWord(at) => Asking { session, modules, address, known }.from_some(&words[..count], at, habit, frame, read_stack),
+            Step::NeedsWord(at) => {
+                let count = words.len();
+                Asking { session, modules, address, known }.from_some(count, at, habit, frame, read_stack)
+            }
         }
     }
 }
@@ -149,11 +159,11 @@ impl<D: Deref<Target = [u8]>, R: Registers + Pointing, P: AllocationPolicy> Aski
         answer
     }
 
-    /// Goes on with a step that needs one more word than these.
+    /// Goes on with a step that needs one more word than so many that were foreseen.
     #[cold]
     fn from_some<F: FnMut(u64) -> Result<u64, ()>>(
         mut self,
-        words: &[Word],
+        count: usize,
         at: u64,
         habit: &mut Habit,
         frame: &mut Frame<R>,
@@ -161,7 +171,7 @@ impl<D: Deref<Target = [u8]>, R: Registers + Pointing, P: AllocationPolicy> Aski
     ) -> Result<Option<u64>, Error> {
         habit.forget();
         self.known.words.clear();
-        self.known.words.extend_from_slice(words);
+        self.known.words.extend_from_slice(&self.known.first[..count]);
         self.end(Step::NeedsWord(at), frame, read_stack)
     }
 }
