@@ -102,6 +102,18 @@ impl Foreseen {
     pub(crate) fn addresses(&self) -> &[u64] {
         &self.addresses[..self.count]
     }
+
+    /// The address of the first word, if there is one.
+    #[inline(always)]
+    pub(crate) fn start(&self) -> u64 {
+        self.addresses[0]
+    }
+
+    /// Whether each word is the next after the one before.
+    #[inline(always)]
+    pub(crate) fn are_side_by_side(&self) -> bool {
+        self.count < 2 || self.addresses[1] == self.addresses[0].wrapping_add(8)
+    }
 }
 
 impl Habit {

@@ -2,6 +2,7 @@
 
 use crate::code_address::FrameAddress;
 use std::ffi::c_void;
+use std::marker::PhantomData;
 use std::ops::Range;
 use std::ptr;
 
@@ -77,9 +78,6 @@ pub(crate) struct Word {
 }
 
 impl Word {
-    /// A place for an answer.
-    pub(crate) const NONE: Word = Word { address: 0, word: 0, is_readable: 0 };
-
     /// An answer of `read_stack`.
     #[inline(always)]
     pub(crate) fn of(address: u64, answer: Result<u64, ()>) -> Word {
@@ -91,27 +89,49 @@ impl Word {
     pub(crate) fn address(&self) -> u64 {
         self.address
     }
-
-    /// Whether there is a word.
-    pub(crate) fn is_readable(&self) -> bool {
-        self.is_readable != 0
-    }
 }
 
-/// `framehop_sample`.
+/// `framehop_sample`, of words that are borrowed. Others are asked for.
 #[repr(C)]
-pub(crate) struct Sample {
+pub(crate) struct Sample<'a> {
     start: u64,
     bytes: Bytes,
     known: *const Word,
     known_count: usize,
     asks: u64,
+    borrowed: PhantomData<&'a Word>,
 }
 
-impl Sample {
-    /// Words that are known, as long as they are borrowed. Others are asked for.
-    pub(crate) fn asking(known: &[Word]) -> Sample {
-        Sample { start: 0, bytes: Bytes::of(&[]), known: known.as_ptr(), known_count: known.len(), asks: 1 }
+impl<'a> Sample<'a> {
+    /// Words that are known.
+    pub(crate) fn of_known(known: &'a [Word]) -> Sample<'a> {
+        let (known, known_count) = (known.as_ptr(), known.len());
+        Sample { start: 0, bytes: Bytes::of(&[]), known, known_count, asks: 1, borrowed: PhantomData }
+    }
+
+    /// A copy of the words from an address on, and words beside it.
+    #[inline(always)]
+    pub(crate) fn of_copied(start: u64, words: &'a [CopiedWord], known: &'a [Word]) -> Sample<'a> {
+        let bytes = Bytes(words.as_ptr().cast(), size_of_val(words));
+        Sample { start, bytes, known: known.as_ptr(), known_count: known.len(), asks: 1, borrowed: PhantomData }
+    }
+}
+
+/// A word as it is on the stack, where the lowest byte comes first.
+#[derive(Clone, Copy)]
+#[repr(transparent)]
+pub(crate) struct CopiedWord(u64);
+
+impl CopiedWord {
+    /// The word with this value.
+    #[inline(always)]
+    pub(crate) fn of(value: u64) -> CopiedWord {
+        CopiedWord(value.to_le())
+    }
+
+    /// Its value.
+    pub(crate) fn value(self) -> u64 {
+        u64::from_le(self.0)
     }
 }
 

@@ -4,8 +4,8 @@ use crate::c::{Registers, Session};
 use crate::cache::{AllocationPolicy, CacheStats};
 use crate::code_address::FrameAddress;
 use crate::error::Error;
-use crate::habits::{Foreseen, Habit, Habits, Pointing, READS};
-use crate::layout::{Frame, Word};
+use crate::habits::{Habit, Habits, Pointing, READS};
+use crate::layout::{CopiedWord, Frame, Sample, Word};
 use crate::modules::Modules;
 use crate::status::Step;
 use std::marker::PhantomData;
@@ -25,25 +25,19 @@ pub(crate) struct Mirror<R: Registers, P> {
 
 /// The words that a step has asked for.
 struct KnownWords<P> {
-    /// Those that were foreseen.
-    first: [Word; READS],
     words: Vec<Word>,
     policy: PhantomData<P>,
 }
 
 impl<P: AllocationPolicy> KnownWords<P> {
-    /// Asks for the words that a step will read, up to one that can't be read.
-    #[inline(always)]
-    fn ask_first<F: FnMut(u64) -> Result<u64, ()>>(&mut self, foreseen: &Foreseen, read_stack: &mut F) -> &[Word] {
-        let mut count = 0;
-        for (word, address) in self.first.iter_mut().zip(foreseen.addresses()) {
-            *word = Word::of(*address, read_stack(*address));
-            count += 1;
-            if !word.is_readable() {
-                break;
-            }
+    /// Notes the words at addresses, or that the one after these can't be read.
+    #[cold]
+    fn note(&mut self, addresses: &[u64], copied: &[CopiedWord], has_unreadable: bool) {
+        self.words.clear();
+        self.words.extend(addresses.iter().zip(copied).map(|(at, word)| Word::of(*at, Ok(word.value()))));
+        if has_unreadable {
+            self.words.push(Word::of(addresses[copied.len()], Err(())));
         }
-        &self.first[..count]
     }
 
     /// Asks for a word, unless there is no room for it.
@@ -58,7 +52,7 @@ impl<P: AllocationPolicy> KnownWords<P> {
 
 impl<R: Registers + Pointing, P: AllocationPolicy> Mirror<R, P> {
     pub(crate) fn new() -> Self {
-        let known = KnownWords { first: [Word::NONE; READS], words: Vec::with_capacity(ROOM), policy: PhantomData };
+        let known = KnownWords { words: Vec::with_capacity(ROOM), policy: PhantomData };
         Mirror { session: Session::NONE, habits: Habits::new(), known, stats: CacheStats::new() }
     }
 
@@ -85,14 +79,28 @@ impl<R: Registers + Pointing, P: AllocationPolicy> Mirror<R, P> {
             return Asking { session, modules, address, known }.from_none(habit, stats, frame, read_stack);
         };
         stats.hit_count += 1;
-        let words = known.ask_first(&foreseen, read_stack);
-        match session.step(modules, address, frame, words) {
-            Step::Answered(answer) => answer,
-            Step::NeedsWord(at) => {
-                let count = words.len();
-                Asking { session, modules, address, known }.from_some(count, at, habit, frame, read_stack)
-            }
+        let addresses = foreseen.addresses();
+        let mut copied = [CopiedWord::of(0); READS];
+        for (count, at) in addresses.iter().enumerate() {
+            let Ok(word) = read_stack(*at) else {
+                known.note(addresses, &copied[..count], true);
+                return Asking { session, modules, address, known }.over_noted(habit, frame, read_stack);
+            };
+            copied[count] = CopiedWord::of(word);
         }
+        let copied = &copied[..addresses.len()];
+        let beside;
+        let sample = if foreseen.are_side_by_side() {
+            Sample::of_copied(foreseen.start(), copied, &[])
+        } else {
+            beside = [Word::of(addresses[0], Ok(copied[0].value()))];
+            Sample::of_copied(addresses[1], &copied[1..], &beside)
+        };
+        if let Step::Answered(answer) = session.step(modules, address, frame, &sample) {
+            return answer;
+        }
+        known.note(addresses, copied, false);
+        Asking { session, modules, address, known }.over_noted(habit, frame, read_stack)
     }
 }
 
@@ -112,7 +120,7 @@ struct Asking<'a, D, R, P> {
 
 impl<D: Deref<Target = [u8]>, R: Registers + Pointing, P: AllocationPolicy> Asking<'_, D, R, P> {
     fn step(&mut self, frame: &mut Frame<R>) -> Step {
-        self.session.step(self.modules, self.address, frame, &self.known.words)
+        self.session.step(self.modules, self.address, frame, &Sample::of_known(&self.known.words))
     }
 
     /// What the step gives in the end, after this.
@@ -159,19 +167,18 @@ impl<D: Deref<Target = [u8]>, R: Registers + Pointing, P: AllocationPolicy> Aski
         answer
     }
 
-    /// Goes on with a step that needs one more word than so many that were foreseen.
+    /// Makes the step over the words that are noted, and with each of which nothing was foreseen.
     #[cold]
-    fn from_some<F: FnMut(u64) -> Result<u64, ()>>(
+    fn over_noted<F: FnMut(u64) -> Result<u64, ()>>(
         mut self,
-        count: usize,
-        at: u64,
         habit: &mut Habit,
         frame: &mut Frame<R>,
         read_stack: &mut F,
     ) -> Result<Option<u64>, Error> {
-        habit.forget();
-        self.known.words.clear();
-        self.known.words.extend_from_slice(&self.known.first[..count]);
-        self.end(Step::NeedsWord(at), frame, read_stack)
+        let first = self.step(frame);
+        if let Step::NeedsWord(_) = first {
+            habit.forget();
+        }
+        self.end(first, frame, read_stack)
     }
 }
