@@ -72,11 +72,11 @@ impl<R> Drop for Session<R> {
 impl<R: Registers> Session<R> {
     pub(crate) const NONE: Self = Session { handle: Handle::NONE, cache: 0, followers: Vec::new(), last: (0, 0), registers: PhantomData };
 
-    /// Gives what is loaded to the list that was followed last, if it is still there, and is left as `NONE`.
+    /// Gives what is loaded of the list that was followed last to that list, if it is still there, and is left as `NONE`.
     pub(crate) fn retire(&mut self) {
         let mut session = mem::replace(self, Session::NONE);
-        let followed = session.followers.iter().find(|it| it.version == session.last.0);
-        if let Some(version) = followed.and_then(|it| it.lasting.upgrade()) {
+        session.followers.retain(|it| it.version == session.last.0 || framehop_remove_unwinder(&mut session.handle, it.unwinder) != 0);
+        if let Some(version) = session.followers.first().and_then(|it| it.lasting.upgrade()) {
             done(framehop_remove_cache(&mut session.handle, session.cache));
             version.keep(session);
         }
