@@ -1,7 +1,8 @@
 //! Steps, for C.
 
-ghost use Rattle.std.specs.Prelude.{◌≡◌, option_map};
+ghost use Rattle.std.specs.Prelude.{◌≡◌, IfSome, option_map};
 ghost use Rattle.framehop_calls.specs.CallViews.{step_call};
+ghost use Rattle.framehop_calls.specs.Registers.{to_aarch64, to_x86_64};
 ghost use Rattle.framehop_c.specs.Steps.{StepsAarch64, StepsOnAarch64, StepsOnX86_64, StepsX86_64, call_aarch64, call_x86_64, left_aarch64, left_x86_64};
 
 use crate::handle::SessionHandle;
@@ -29,7 +30,8 @@ impl FrameX86_64 {
     // The call that it says, if its place is one of a frame.
     #[inline(always)]
     fn call(&self) -> Option<SampleStepCall<UnwindRegsX86_64>>
-        ensures { option_map step_call result ≡ call_x86_64 self.now }
+        ensures call { option_map step_call result ≡ call_x86_64 self.now }
+        ensures registers { IfSome result (λ call. call.regs ≡ to_x86_64 self.now.registers) }
     {
         let address = frame_at(self.place, self.address)?;
         Some(SampleStepCall {
@@ -60,13 +62,15 @@ impl AnySession {
     #[inline(always)]
     fn step_x86_64(
         &mut self,
+        given: &RegistersX86_64,
         call: &mut SampleStepCall<UnwindRegsX86_64>,
         sample: &Sample<'_>,
     ) -> Option<u32>
+        requires { to_x86_64 given.now ≡ call.old.regs }
         ensures { StepsOnX86_64 result sample.now (step_call call.old) (step_call call.new) self.old self.new }
     {
         match self {
-            AnySession::X86_64(session) => Some(session.step(call, sample)),
+            AnySession::X86_64(session) => Some(session.step(given, call, sample)),
             AnySession::Aarch64(_) => None,
         }
     }
@@ -88,7 +92,7 @@ pub extern "C" fn framehop_unwind_frame_x86_64(
     let Some(mut state) = session.take(alloc) else {
         return NO_VALUE;
     };
-    let step = state.step_x86_64(&mut call, sample);
+    let step = state.step_x86_64(&frame.registers, &mut call, sample);
     session.put(alloc, state);
     let Some(status) = step else {
         return OTHER_ARCHITECTURE;
@@ -114,7 +118,8 @@ impl FrameAarch64 {
     // The call that it says, if its place is one of a frame.
     #[inline(always)]
     fn call(&self) -> Option<SampleStepCall<UnwindRegsAarch64>>
-        ensures { option_map step_call result ≡ call_aarch64 self.now }
+        ensures call { option_map step_call result ≡ call_aarch64 self.now }
+        ensures registers { IfSome result (λ call. call.regs ≡ to_aarch64 self.now.registers) }
     {
         let address = frame_at(self.place, self.address)?;
         Some(SampleStepCall {
@@ -145,13 +150,15 @@ impl AnySession {
     #[inline(always)]
     fn step_aarch64(
         &mut self,
+        given: &RegistersAarch64,
         call: &mut SampleStepCall<UnwindRegsAarch64>,
         sample: &Sample<'_>,
     ) -> Option<u32>
+        requires { to_aarch64 given.now ≡ call.old.regs }
         ensures { StepsOnAarch64 result sample.now (step_call call.old) (step_call call.new) self.old self.new }
     {
         match self {
-            AnySession::Aarch64(session) => Some(session.step(call, sample)),
+            AnySession::Aarch64(session) => Some(session.step(given, call, sample)),
             AnySession::X86_64(_) => None,
         }
     }
@@ -173,7 +180,7 @@ pub extern "C" fn framehop_unwind_frame_aarch64(
     let Some(mut state) = session.take(alloc) else {
         return NO_VALUE;
     };
-    let step = state.step_aarch64(&mut call, sample);
+    let step = state.step_aarch64(&frame.registers, &mut call, sample);
     session.put(alloc, state);
     let Some(status) = step else {
         return OTHER_ARCHITECTURE;

@@ -1,5 +1,5 @@
 -- Steps over a sample.
-use Rattle.std.specs.Prelude.{ℕ, ◌≡◌, ◌≢◌, List, Bool, false, Option, Some, None, Result, Err, IfSome}
+use Rattle.std.specs.Prelude.{ℕ, ◌≡◌, ◌≢◌, List, Bool, false, Option, Some, None, Result, Err, IfSome, OnErr}
 use Rattle.std.specs.List.{AllPass}
 use Rattle.framehop_registers.specs.Callback.{Words}
 use Rattle.framehop_registers.specs.declared.code_address.FrameAddress.{FrameAddress}
@@ -10,7 +10,7 @@ use Rattle.framehop_unwinder.specs.Attempt.{Meanings}
 use Rattle.framehop_unwinder.specs.ByNumber.{marks}
 use Rattle.framehop_unwinder.specs.Frames.{Frame, frame_of}
 use Rattle.framehop_unwinder.specs.HitReads.{RuleReads, reads_by}
-use Rattle.framehop_unwinder.specs.IdViews.{cache_number, modules_by, unwinder_number}
+use Rattle.framehop_unwinder.specs.IdViews.{FindsHeld, cache_number, modules_by, unwinder_number}
 use Rattle.framehop_unwinder.specs.Judge.{judge}
 use Rattle.framehop_unwinder.specs.State.{SessionState, StepsThrough}
 use Rattle.framehop_unwinder.specs.Trials.{StaysUnlessStepped, StepsAs, wants_memory}
@@ -36,6 +36,11 @@ pub record IsAnswered {Registers : Type 0} (answer : Result (Option ℕ) Error) 
 abbrev pub AnswersIn : {Data Rule Registers : Type 0} → Meanings Data Rule Registers → SessionState Data Rule → UnwinderId → FrameAddress
     → Sample → Result (Option ℕ) Error → Registers → Registers → Type 0
 AnswersIn m session unwinder address sample answer old new = IsAnswered answer old new (outcome_in m session unwinder address old sample)
+
+-- A step fails if and only if what it names was let go, or was never made; and changes nothing then.
+pub record FindsBoth {X Registers A E : Type 0} (is_held : Bool) (result : Result A E) (old_session new_session : X) (old new : Registers) : Type 0 where
+  pub session : FindsHeld is_held result old_session new_session
+  pub registers : OnErr result (new ≡ old)
 
 -- a step is the one of an outcome, or needs a word and leaves the registers
 abbrev pub SampleSteps : {Registers : Type 0} → SampleStep → Registers → Registers → Outcome (Caller Registers) → Type 0

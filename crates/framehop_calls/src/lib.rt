@@ -19,7 +19,7 @@ mod walks;
 
 pub use registers::{RegistersAarch64, RegistersX86_64};
 pub use sample::{KnownWord, Sample};
-pub use sample_steps::{SampleStep, step_in_sample};
+pub use sample_steps::{GivenRegisters, SampleStep, step_in_sample};
 pub use sample_walks::{SampleWalk, WalkEnd, WalkPlace, Walked, walk_in_sample};
 pub use sections::{FileSections, Section};
 pub use session::{CountedSession, let_go};

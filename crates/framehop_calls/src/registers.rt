@@ -3,6 +3,7 @@
 ghost use Rattle.std.specs.Prelude.{◌≡◌, length};
 ghost use Rattle.framehop_calls.specs.Registers.{from_aarch64, from_x86_64, to_aarch64, to_x86_64};
 
+use crate::sample_steps::GivenRegisters;
 use framehop_registers::aarch64::{PtrAuthMask, UnwindRegsAarch64};
 use framehop_registers::x86_64::{Reg, UnwindRegsX86_64};
 
@@ -88,6 +89,22 @@ impl RegistersX86_64 {
                 regs.get(Reg::R15),
             ],
         }
+    }
+}
+
+impl GivenRegisters<UnwindRegsX86_64> for RegistersX86_64 {
+    ghost given = { λ registers. to_x86_64 registers };
+
+    fn registers(&self) -> UnwindRegsX86_64 {
+        self.to_regs()
+    }
+}
+
+impl GivenRegisters<UnwindRegsAarch64> for RegistersAarch64 {
+    ghost given = { λ registers. to_aarch64 registers };
+
+    fn registers(&self) -> UnwindRegsAarch64 {
+        self.to_regs()
     }
 }
 

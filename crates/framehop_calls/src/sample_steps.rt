@@ -6,7 +6,7 @@ ghost use Rattle.framehop_unwinder.specs.Frames.{frame_of};
 ghost use Rattle.framehop_unwinder.specs.IdViews.{FindsHeld, StepsBy, has_both};
 ghost use Rattle.framehop_unwinder.specs.Trials.{wants_memory};
 ghost use Rattle.framehop_calls.specs.Samples.{first_unknown, is_known, words_of};
-ghost use Rattle.framehop_calls.specs.SampleSteps.{AnswersIn, Asks, CountsBy, IsAskedFor, KeepsModules, NotesRead, SampleSteps, StepsIn, TakesNoMemory, outcome_in, reads_at};
+ghost use Rattle.framehop_calls.specs.SampleSteps.{AnswersIn, Asks, CountsBy, FindsBoth, IsAskedFor, KeepsModules, NotesRead, SampleSteps, StepsIn, TakesNoMemory, outcome_in, reads_at};
 
 use crate::sample::{AskedSample, Sample};
 use framehop_rules::{Error, FrameAddress};
@@ -19,6 +19,29 @@ pub enum SampleStep {
     Answered(Result<Option<u64>, Error>),
     /// Nothing was done: the word at this address has to be known first.
     NeedsWord(u64),
+}
+
+/// Registers as a caller gave them, who still has them. So a step that needs a word puts them back, and keeps no copy.
+pub trait GivenRegisters<R> {
+    ghost given: { Self → R };
+
+    /// The registers.
+    fn registers(&self) -> R
+        ensures { result ≡ given self.now };
+}
+
+// A copy of registers.
+#[derive(Clone, Copy)]
+pub(crate) struct Copied<R> {
+    pub(crate) regs: R,
+}
+
+impl<R: Copy> GivenRegisters<R> for Copied<R> {
+    ghost given = { λ copied. copied.regs };
+
+    fn registers(&self) -> R {
+        self.regs
+    }
 }
 
 // What was asked for, if the sample asks and nothing is known of it.
@@ -91,16 +114,18 @@ fn step_by_asked<A: ModuleUnwinding>(
 /// Makes a step over a sample, if the session has the unwinder and the cache: that of the judge over the words that are known, and over
 /// no others. If another is asked for, nothing is done but in the cache, and the step is to be made again once it is known.
 #[inline(always)]
-pub(crate) fn step_if_held<A: ModuleUnwinding>(
+pub(crate) fn step_if_held<A: ModuleUnwinding, G: GivenRegisters<A::UnwindRegs>>(
     session: &mut Session<A>,
     unwinder: UnwinderId,
     cache: CacheId,
     address: FrameAddress,
+    given: &G,
     regs: &mut A::UnwindRegs,
     sample: &Sample<'_>,
 ) -> Result<SampleStep, StaleId>
-    ensures found { FindsHeld (has_both session.old unwinder cache) result session.old session.new }
-    ensures unchanged { OnErr result (regs.new ≡ regs.old) }
+    requires { G.given given.now ≡ regs.old }
+    ensures found { FindsBoth (has_both session.old unwinder cache) result
+        session.old session.new regs.old regs.new }
     ensures step { IfOk result (λ made.
         StepsIn A.meanings session.old unwinder address sample.now made regs.old regs.new) }
     ensures asks { IfOk result (Asks sample.now
@@ -110,7 +135,7 @@ pub(crate) fn step_if_held<A: ModuleUnwinding>(
     ensures memory { IfOk result (λ made. A.takes_memory ≡ false → TakesNoMemory made) }
 {
     if sample.asks != 0 {
-        return step_or_need(session, unwinder, cache, address, regs, sample);
+        return step_or_need(session, unwinder, cache, address, given, regs, sample);
     }
     let step = step_by_known(session, unwinder, cache, address, regs, sample)?;
     Ok(SampleStep::Answered(step))
@@ -118,16 +143,18 @@ pub(crate) fn step_if_held<A: ModuleUnwinding>(
 
 // Makes a step over a sample that asks for words, if the session has both: none if a word has to be known first.
 #[inline(always)]
-fn step_or_need<A: ModuleUnwinding>(
+fn step_or_need<A: ModuleUnwinding, G: GivenRegisters<A::UnwindRegs>>(
     session: &mut Session<A>,
     unwinder: UnwinderId,
     cache: CacheId,
     address: FrameAddress,
+    given: &G,
     regs: &mut A::UnwindRegs,
     sample: &Sample<'_>,
 ) -> Result<SampleStep, StaleId>
-    ensures found { FindsHeld (has_both session.old unwinder cache) result session.old session.new }
-    ensures unchanged { OnErr result (regs.new ≡ regs.old) }
+    requires { G.given given.now ≡ regs.old }
+    ensures found { FindsBoth (has_both session.old unwinder cache) result
+        session.old session.new regs.old regs.new }
     ensures step { IfOk result (λ made.
         StepsIn A.meanings session.old unwinder address sample.now made regs.old regs.new) }
     ensures asks { IfOk result (Asks sample.now
@@ -140,11 +167,10 @@ fn step_or_need<A: ModuleUnwinding>(
         sample,
         wanted: None,
     };
-    let before = *regs;
     let step = step_by_asked(session, unwinder, cache, address, regs, &mut asked)?;
     match needed(sample, asked.wanted) {
         Some(address) => {
-            *regs = before;
+            *regs = given.registers();
             Ok(SampleStep::NeedsWord(address))
         }
         None => Ok(SampleStep::Answered(step)),
@@ -170,6 +196,7 @@ pub fn step_in_sample<A: ModuleUnwinding>(
     ensures caches { CountsBy A.meanings result address unwinder cache session.old session.new }
     ensures memory { A.takes_memory ≡ false → TakesNoMemory result }
 {
-    let made = step_if_held(session, unwinder, cache, address, regs, sample);
+    let given = Copied { regs: *regs };
+    let made = step_if_held(session, unwinder, cache, address, &given, regs, sample);
     made.unwrap()
 }

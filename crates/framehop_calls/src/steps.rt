@@ -8,7 +8,7 @@ ghost use Rattle.framehop_calls.specs.Places.{frame_numbered};
 ghost use Rattle.framehop_calls.specs.Steps.{KnewByNumber, StepsByNumber, return_address_by, status_of_numbers, step_status, word_by, word_of_error};
 
 use crate::sample::Sample;
-use crate::sample_steps::{SampleStep, step_if_held};
+use crate::sample_steps::{GivenRegisters, SampleStep, step_if_held};
 use crate::session::CountedSession;
 use crate::status::{END_OF_STACK, NEED_WORD, NO_CACHE, NO_UNWINDER, OK, error_status};
 use framehop_rules::{Error, FrameAddress};
@@ -90,8 +90,15 @@ impl<A: ModuleUnwinding> CountedSession<A> {
     }
 
     /// Makes a step over a sample. Writes the return address, or the address of the word that is needed or can't be read, and answers the
-    /// status.
-    pub fn step(&mut self, call: &mut SampleStepCall<A::UnwindRegs>, sample: &Sample<'_>) -> u32
+    /// status. The caller still has the registers of the call as he gave them.
+    #[inline(always)]
+    pub fn step<G: GivenRegisters<A::UnwindRegs>>(
+        &mut self,
+        given: &G,
+        call: &mut SampleStepCall<A::UnwindRegs>,
+        sample: &Sample<'_>,
+    ) -> u32
+        requires { G.given given.now ≡ call.old.regs }
         ensures made { StepsByNumber A.meanings result sample.now (step_call call.old) (step_call call.new) self.old self.new }
         ensures knew { KnewByNumber A.UnwindRule.reads result sample.now (step_call call.old) self.old }
     {
@@ -102,6 +109,7 @@ impl<A: ModuleUnwinding> CountedSession<A> {
             unwinder,
             cache,
             call.address,
+            given,
             &mut call.regs,
             sample,
         );

@@ -4,7 +4,7 @@ use Rattle.framehop_calls.proofs.Calls.{if_done, is_done, keeps_modules}
 use Rattle.framehop_calls.proofs.sample_steps.step_in_sample.Goals as goal
 
 pub unwrap-requires : goal.unwrap-requires
-unwrap-requires g c = is_done _ c.step_if_held-made.result _ _ c.requires c.step_if_held-made.ensures.found
+unwrap-requires g c = is_done _ c.step_if_held-made.result _ _ c.requires c.step_if_held-made.ensures.found.session
 
 pub returns-clause-step : goal.returns-clause-step
 returns-clause-step g c = if_done c.step_if_held-made.result c.unwrap.result _ c.unwrap.ensures c.step_if_held-made.ensures.step
