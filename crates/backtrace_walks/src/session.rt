@@ -11,7 +11,7 @@ use crate::arch::FileModules;
 use backtrace_files::{FileSections, LoadedCode, LoadedFile, loaded_code};
 use core_files::MappedFile;
 use framehop::{
-    CodeRules, FdeLookup, Generations, LoadOptions, Module, Session, UnwinderId, Unwinding,
+    CodeRules, FdeLookup, Generations, LoadOptions, Module, Rows, Session, UnwinderId, Unwinding,
     load_module,
 };
 use std::alloc::{AllocError, Global};
@@ -30,6 +30,7 @@ fn module_with<'a>(
         tables: None,
         debug_frame_beside: true,
         code_rules: CodeRules::Published,
+        rows: Rows::Published,
     };
     let sections = FileSections::new(code.file, code.base_svma);
     let range = mapping.start..mapping.end;

@@ -17,6 +17,7 @@ use Rattle.framehop_index.specs.FdeLookups.{Lookup, ByHeader, ByIndex, ByScan, P
 use Rattle.framehop_index.specs.declared.section_type.UnwindSectionType.TheVariants.{EhFrame}
 use Rattle.framehop_loads.specs.CallFrames.{alone}
 use Rattle.framehop_loads.specs.UnwindData.{UnwindData, CallFrames}
+use Rattle.framehop_loads.specs.declared.load_options.Rows.TheVariants as rows
 
 -- The bytes of a section `.eh_frame` and of its header, the addresses that pointers in them are relative to, and the base that
 -- relative addresses are relative to.
@@ -36,7 +37,13 @@ frames_with h bases lookup = placed (EhFrame h.section) lookup bases h.base
 
 -- a module with this section alone, whose FDEs are found by a lookup
 abbrev pub data_with : HeadedSection → BaseAddresses → Lookup → UnwindData
-data_with h bases lookup = record { format = CallFrames (alone (frames_with h bases lookup)); bases = bases; base_svma = h.base; code = None }
+data_with h bases lookup = record {
+  format = CallFrames (alone (frames_with h bases lookup));
+  bases = bases;
+  base_svma = h.base;
+  code = None;
+  rows = rows.Published;
+}
 
 -- a module that is unwound by the header
 abbrev pub headed_data : HeadedSection → UnwindData

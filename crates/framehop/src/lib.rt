@@ -36,8 +36,9 @@ pub use framehop_errors::{
 pub use framehop_index::{DwarfCfiIndex, IndexLookup, UnwindSectionType};
 pub use framehop_loads::{
     AllocationPolicy, ArchRuleTable, DwarfUnwindContext, FdeLookup, LeftOut, LoadOptions,
-    MayAllocateDuringUnwind, Module, ModuleUnwindData, MustNotAllocateDuringUnwind, StoreOnStack,
-    StoreRowsOnHeap, TableArch, Tabulating, UnwindDataKind, load_module, policies_set_limits,
+    MayAllocateDuringUnwind, Module, ModuleUnwindData, MustNotAllocateDuringUnwind, Rows,
+    StoreOnStack, StoreRowsOnHeap, TableArch, Tabulating, UnwindDataKind, load_module,
+    policies_set_limits,
 };
 pub use framehop_modules::{
     ExplicitModuleSectionInfo, Generations, GenerationsExhausted, LoadError, ModuleSectionInfo,

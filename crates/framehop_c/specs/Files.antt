@@ -2,6 +2,7 @@
 use Rattle.std.specs.Prelude.{ℕ, ◌≡◌, [], not, ◌==◌, Option, Some, None, option_and_then, option_map, if◌then◌else◌}
 use Rattle.framehop_code_rules.specs.declared.CodeRules.{CodeRules}
 use Rattle.framehop_code_rules.specs.declared.CodeRules.TheVariants.{Known, Published, Ways}
+use Rattle.framehop_loads.specs.declared.load_options.Rows.TheVariants as rows
 use Rattle.framehop_unwinder.specs.Modules.{Loaded}
 use Rattle.framehop_loads.specs.UnwindData.{UnwindData, unwind_data_with}
 use Rattle.framehop_loads.specs.declared.load_options.FdeLookup.{FdeLookup}
@@ -34,6 +35,7 @@ options_by on file lookup code_rules = record {
   tables = if file.tables == 0 then None else Some on;
   debug_frame_beside = not (file.debug_frame_beside == 0);
   code_rules = code_rules;
+  rows = rows.Published;
 }
 
 -- .. if those are of these numbers

@@ -4,7 +4,7 @@ ghost use Rattle.std.specs.Prelude.{◌≡◌};
 ghost use Rattle.framehop_calls.specs.Sections.{sections_listed, sections_of};
 ghost use Rattle.framehop_c.specs.Files.{code_rules_numbered, lookup_numbered, options_of};
 
-use framehop::{CodeRules, FdeLookup, LoadOptions, TableArch};
+use framehop::{CodeRules, FdeLookup, LoadOptions, Rows, TableArch};
 use framehop_calls::{FileSections, Section};
 
 /// A file that is mapped in a profiled process. The bytes of its sections are lent.
@@ -68,6 +68,7 @@ impl<'a> MappedFile<'a> {
             tables: if self.tables == 0 { None } else { Some(on) },
             debug_frame_beside: self.debug_frame_beside != 0,
             code_rules,
+            rows: Rows::Published,
         })
     }
 }

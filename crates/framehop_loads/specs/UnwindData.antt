@@ -11,6 +11,7 @@ use Rattle.framehop_modules.specs.declared.module_sections.SectionData.{SectionD
 use Rattle.framehop_code.specs.Places.{CodeBytes}
 use Rattle.framehop_code_rules.specs.declared.CodeRules.{CodeRules}
 use Rattle.framehop_code_rules.specs.declared.CodeRules.TheVariants as rules
+use Rattle.framehop_loads.specs.declared.load_options.Rows.{Rows}
 use Rattle.framehop_compact.specs.CompactFiles.{Code, CompactFile}
 use Rattle.framehop_pe_codes.specs.Sections.{PeFile, PeSection}
 use Rattle.framehop_index.specs.FdeLookups.{Lookup, ByHeader, PlacedFrames, placed}
@@ -29,12 +30,13 @@ pub data ModuleFormat : Type 0 where
   NoFormat : ModuleFormat
 
 -- The unwind data of a module: its format, the addresses that pointers in its sections are relative to, the module's base as the file
--- states it, and its code at addresses relative to the base, if first frames go by ways out of functions.
+-- states it, its code at addresses relative to the base, if first frames go by ways out of functions, and what its rows are taken to say.
 pub record UnwindData : Type 0 where
   pub format : ModuleFormat
   pub bases : BaseAddresses
   pub base_svma : ℕ
   pub code : Option CodeBytes
+  pub rows : Rows
 
 -- the addresses that pointers are relative to, by the starts of sections: in `.eh_frame_hdr`, `DW_EH_PE_datarel` is relative to that
 -- section itself, in the others to the global offset table
@@ -158,6 +160,7 @@ unwind_data_with options s = record {
   bases = bases_of (base_svmas s);
   base_svma = s.base_svma;
   code = code_by options.code_rules (format_of options s) (text_of s.base_svma s);
+  rows = options.rows;
 }
 
 -- the unwind data as the original takes them

@@ -18,7 +18,7 @@ mod unwind_kind;
 pub use call_frames::{CallFrames, fde_beside};
 pub use compact::CompactModule;
 pub use context::DwarfUnwindContext;
-pub use load_options::{FdeLookup, LoadOptions, TableArch};
+pub use load_options::{FdeLookup, LoadOptions, Rows, TableArch};
 pub use module::{Module, load_module};
 pub use pe::PeModule;
 pub use policies::{

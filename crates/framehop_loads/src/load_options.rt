@@ -22,6 +22,17 @@ pub enum TableArch {
     Aarch64,
 }
 
+/// What the rows of a module's call frames are taken to say.
+#[derive(Debug, Clone, Copy, PartialEq, Eq)]
+pub enum Rows {
+    /// What the original takes of them: an unwind rule if one says the row, and else the canonical frame address, the return address and
+    /// the frame pointer, by these registers and by expressions that read no memory.
+    Published,
+    /// What DWARF says (DWARF 5, 6.4.1 and 6.4.3): each register of the caller, by each register of the frame that is known, and by
+    /// expressions that read memory. For steps whose registers carry those that are known.
+    Whole,
+}
+
 /// What a module's load asks for. By default it is what the original does.
 #[derive(Debug, Clone, Copy, PartialEq, Eq)]
 pub struct LoadOptions {
@@ -37,6 +48,9 @@ pub struct LoadOptions {
     /// By which rules the machine code of the module is read in first frames. `Known` is for modules with compact unwind info and PE files;
     /// `Ways` is for all, and needs the section of code. By default `Published`.
     pub code_rules: CodeRules,
+    /// What rows of call frames are taken to say. Steps whose registers don't carry those that are known take them as `Published`. By default
+    /// `Published`.
+    pub rows: Rows,
 }
 
 impl Default for LoadOptions {
@@ -51,6 +65,7 @@ impl Default for LoadOptions {
             tables: None,
             debug_frame_beside: false,
             code_rules: CodeRules::Published,
+            rows: Rows::Published,
         }
     }
 }

@@ -12,7 +12,7 @@ ghost use Rattle.framehop_loads.specs.WayBounds.{unless_covered, way_bounds};
 use crate::call_frames::CallFrames;
 use crate::code::{CodeAt, goes_by_ways, lent, text_beside};
 use crate::compact::CompactModule;
-use crate::load_options::{FdeLookup, LoadOptions};
+use crate::load_options::{FdeLookup, LoadOptions, Rows};
 use crate::pe::PeModule;
 use dwarf_frame_entries::BaseAddresses;
 use framehop_code::{Code, CodeRange};
@@ -37,7 +37,8 @@ pub enum ModuleFormat<D: SectionBytes> {
 }
 
 /// The unwind data of a module: what it is unwound by, the addresses that pointers in its sections are
-/// relative to, the module's base as the file states it, and its code, if first frames go by ways out of functions.
+/// relative to, the module's base as the file states it, its code, if first frames go by ways out of functions, and what its rows are taken
+/// to say.
 #[derive(Drop)]
 pub struct ModuleUnwindData<D: SectionBytes> {
     format: ModuleFormat<D>,
@@ -46,6 +47,7 @@ pub struct ModuleUnwindData<D: SectionBytes> {
     code_rules: CodeRules,
     // The section of code, if the tables have none with them.
     text: Option<CodeAt<D>>,
+    rows: Rows,
 }
 
 impl<D: SectionBytes> Model for ModuleUnwindData<D> {
@@ -59,6 +61,7 @@ impl<D: SectionBytes> Model for ModuleUnwindData<D> {
       bases = given.bases;
       base_svma = given.base_svma;
       code = code_by given.code_rules (format_view D.content given.format) given.text;
+      rows = given.rows;
     } };
 }
 
@@ -246,6 +249,7 @@ impl<D: SectionBytes + Drop> ModuleUnwindData<D> {
             base_svma,
             code_rules: options.code_rules,
             text,
+            rows: options.rows,
         })
     }
 }
@@ -271,6 +275,14 @@ impl<D: SectionBytes> ModuleUnwindData<D> {
         ensures { format_view D.content result.now ≡ self.now.format }
     {
         &self.format
+    }
+
+    /// What the module's rows are taken to say.
+    #[inline(always)]
+    pub fn rows(&self) -> Rows
+        ensures { result ≡ self.now.rows }
+    {
+        self.rows
     }
 
     /// The code of the module, at addresses relative to its base, if first frames go by ways out of functions.

@@ -12,7 +12,7 @@ use crate::known::{
 };
 use crate::ranges::{CodeRange, code_ranges};
 use backtrace_files::{FileSections, LoadedFile, loaded_code};
-use framehop::{CodeRules, FdeLookup, LoadOptions, Module, Session, UnwinderId, load_module};
+use framehop::{CodeRules, FdeLookup, LoadOptions, Module, Rows, Session, UnwinderId, load_module};
 use perf_processes::MappedFile;
 use std::alloc::{AllocError, Global};
 use std::marker::Model;
@@ -122,6 +122,7 @@ fn module_of(
         tables: None,
         debug_frame_beside: true,
         code_rules: CodeRules::Published,
+        rows: Rows::Published,
     };
     let addresses = range.start..range.end;
     let name = String::new(alloc);

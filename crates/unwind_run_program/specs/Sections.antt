@@ -7,6 +7,7 @@ use Rattle.framehop_loads.specs.UnwindData.{UnwindData, unwind_data_with}
 use Rattle.framehop_loads.specs.declared.load_options.FdeLookup.{FdeLookup}
 use Rattle.framehop_loads.specs.declared.load_options.FdeLookup.TheVariants.{Auto, Index, Scan}
 use Rattle.framehop_loads.specs.declared.load_options.LoadOptions.{LoadOptions}
+use Rattle.framehop_loads.specs.declared.load_options.Rows.TheVariants as rows
 use Rattle.framehop_loads.specs.declared.load_options.TableArch.{TableArch}
 use Rattle.framehop_modules.specs.Sections.{Sections}
 use Rattle.unwind_run_document.specs.declared.command.AddressRange.{AddressRange}
@@ -63,6 +64,7 @@ options_on arch options = record {
   tables = tables_on arch options.tables;
   debug_frame_beside = options.debug_frame_beside;
   code_rules = options.code_rules;
+  rows = rows.Published;
 }
 
 -- the unwind data of sections by their names, on an architecture

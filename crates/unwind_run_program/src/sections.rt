@@ -10,7 +10,8 @@ ghost use Rattle.unwind_run_document.specs.declared.command.StatedSection.{State
 use crate::arch::DocumentArch;
 use crate::perform::DocumentModules;
 use framehop::{
-    AllocationPolicy, BySections, FdeLookup, LoadOptions, ModuleUnwindData, TableArch, Tabulating,
+    AllocationPolicy, BySections, FdeLookup, LoadOptions, ModuleUnwindData, Rows, TableArch,
+    Tabulating,
 };
 use framehop_modules::ModuleSectionInfo;
 use std::alloc::{AllocError, Global};
@@ -133,6 +134,7 @@ fn options_on<A: Tabulating>(options: StatedOptions) -> LoadOptions
         tables: tables_on::<A>(options.tables),
         debug_frame_beside: options.debug_frame_beside,
         code_rules: options.code_rules,
+        rows: Rows::Published,
     }
 }
 
