@@ -1,0 +1,2 @@
+mod PlainSteps
+mod RowOrPlain

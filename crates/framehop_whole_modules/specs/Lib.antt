@@ -1,0 +1,5 @@
+pub mod Attempts
+pub mod Laws
+pub mod ModuleRows
+pub mod StepMeanings
+pub mod Views
