@@ -2,6 +2,7 @@ pub mod Known
 pub mod Loads
 pub mod Names
 pub mod OptionFields
+pub mod Others
 pub mod RoadFields
 pub mod SlotCounts
 pub mod Steps

@@ -1,10 +1,10 @@
 -- The fields of a step and of a walk.
-use Rattle.std.proofs.Common.{◌≡◌, ℕ, List, Bool, true, cond, Ok, Vec, Global, sym, ap, ◌∙◌}
+use Rattle.std.proofs.Common.{◌≡◌, ℕ, List, Option, Bool, true, cond, Ok, Vec, Global, sym, ap, ◌∙◌}
 use Rattle.unwind_run_document.specs.declared.command.FrameKind.{FrameKind}
 use Rattle.unwind_run_document.specs.declared.command.Stack.{Stack}
 use Rattle.unwind_run_document.specs.declared.registers.StatedRegisters.{StatedRegisters}
 use Rattle.json_program.specs.Faults.{Checked, ◌⊛◌, both}
-use Rattle.unwind_run_document.specs.Registers.{all_bits}
+use Rattle.unwind_run_document.specs.Registers.{all_bits, registers_of}
 use Rattle.unwind_run_document.specs.Steps.{stepping_of, walking_of}
 use Rattle.unwind_run_document.specs.Tasks.{StackWords}
 use Rattle.json_program.specs.Decoded.{result_map}
@@ -15,29 +15,36 @@ use Rattle.json_program.proofs.Laws.{first-field, and-field, as_it_is}
 pub under : {A : Type 0} (has : Bool) (x y z : A) → has ≡ true → x ≡ y → x ≡ cond has y z
 under has x y z holds is = is ∙ ap (λ b. cond b y z) (sym holds)
 
-abbrev pub registers : ℕ → ℕ → ℕ → StatedRegisters
-registers ip sp bp = record { code = ip; sp = sp; fp = bp; mask = all_bits }
+abbrev pub Others : Type 0
+Others = List (Option ℕ)
 
-pub three_registers : (ip sp bp : Checked ℕ) (one : Checked (ℕ × ℕ)) (two : Checked ((ℕ × ℕ) × ℕ)) (a b c : Checked ℕ)
-    → ip ≡ a → sp ≡ b → bp ≡ c → one ≡ both ip sp → two ≡ both one bp
-    → result_map (λ p. registers p.0.0 p.0.1 p.1) two ≡ Ok registers ⊛ a ⊛ b ⊛ c
-three_registers ip sp bp one two a b c ip_is sp_is bp_is one_is two_is =
-    and-field (λ p. registers p.0 p.1) (λ v. v) one bp two _ c
+abbrev pub registers : ℕ → ℕ → ℕ → Others → StatedRegisters
+registers ip sp bp others = registers_of ip sp bp all_bits others
+
+pub three_registers : (ip sp bp : Checked ℕ) (o : Checked Others) (one : Checked (ℕ × ℕ)) (two : Checked ((ℕ × ℕ) × ℕ)) (three : Checked (((ℕ × ℕ) × ℕ) × Others))
+    (a b c : Checked ℕ) (d : Checked Others)
+    → ip ≡ a → sp ≡ b → bp ≡ c → o ≡ d → one ≡ both ip sp → two ≡ both one bp → three ≡ both two o
+    → result_map (λ p. registers p.0.0.0 p.0.0.1 p.0.1 p.1) three ≡ Ok registers ⊛ a ⊛ b ⊛ c ⊛ d
+three_registers ip sp bp o one two three a b c d ip_is sp_is bp_is o_is one_is two_is three_is =
+    and-field (λ p. registers p.0.0 p.0.1 p.1) (λ v. v) two o three _ d
+    (and-field (λ p. registers p.0 p.1) (λ v. v) one bp two _ c
     (and-field registers (λ v. v) ip sp one _ b (first-field registers (λ v. v) ip a (as_it_is ip a ip_is)) (as_it_is sp b sp_is) one_is)
-    (as_it_is bp c bp_is) two_is
+    (as_it_is bp c bp_is) two_is)
+    (as_it_is o d o_is) three_is
 
-abbrev pub masked_registers : ℕ → ℕ → ℕ → ℕ → StatedRegisters
-masked_registers lr sp fp mask = record { code = lr; sp = sp; fp = fp; mask = mask }
-
-pub four_registers : (lr sp fp mask : Checked ℕ) (one : Checked (ℕ × ℕ)) (two : Checked ((ℕ × ℕ) × ℕ)) (three : Checked (((ℕ × ℕ) × ℕ) × ℕ)) (a b c d : Checked ℕ)
-    → lr ≡ a → sp ≡ b → fp ≡ c → mask ≡ d → one ≡ both lr sp → two ≡ both one fp → three ≡ both two mask
-    → result_map (λ p. masked_registers p.0.0.0 p.0.0.1 p.0.1 p.1) three ≡ Ok masked_registers ⊛ a ⊛ b ⊛ c ⊛ d
-four_registers lr sp fp mask one two three a b c d lr_is sp_is fp_is mask_is one_is two_is three_is =
-    and-field (λ p. masked_registers p.0.0 p.0.1 p.1) (λ v. v) two mask three _ d
-    (and-field (λ p. masked_registers p.0 p.1) (λ v. v) one fp two _ c
-    (and-field masked_registers (λ v. v) lr sp one _ b (first-field masked_registers (λ v. v) lr a (as_it_is lr a lr_is)) (as_it_is sp b sp_is) one_is)
+pub four_registers : (lr sp fp mask : Checked ℕ) (o : Checked Others)
+    (one : Checked (ℕ × ℕ)) (two : Checked ((ℕ × ℕ) × ℕ)) (three : Checked (((ℕ × ℕ) × ℕ) × ℕ)) (four : Checked ((((ℕ × ℕ) × ℕ) × ℕ) × Others))
+    (a b c d : Checked ℕ) (e : Checked Others)
+    → lr ≡ a → sp ≡ b → fp ≡ c → mask ≡ d → o ≡ e → one ≡ both lr sp → two ≡ both one fp → three ≡ both two mask → four ≡ both three o
+    → result_map (λ p. registers_of p.0.0.0.0 p.0.0.0.1 p.0.0.1 p.0.1 p.1) four ≡ Ok registers_of ⊛ a ⊛ b ⊛ c ⊛ d ⊛ e
+four_registers lr sp fp mask o one two three four a b c d e lr_is sp_is fp_is mask_is o_is one_is two_is three_is four_is =
+    and-field (λ p. registers_of p.0.0.0 p.0.0.1 p.0.1 p.1) (λ v. v) three o four _ e
+    (and-field (λ p. registers_of p.0.0 p.0.1 p.1) (λ v. v) two mask three _ d
+    (and-field (λ p. registers_of p.0 p.1) (λ v. v) one fp two _ c
+    (and-field registers_of (λ v. v) lr sp one _ b (first-field registers_of (λ v. v) lr a (as_it_is lr a lr_is)) (as_it_is sp b sp_is) one_is)
     (as_it_is fp c fp_is) two_is)
-    (as_it_is mask d mask_is) three_is
+    (as_it_is mask d mask_is) three_is)
+    (as_it_is o e o_is) four_is
 
 abbrev pub Numbers : Type 0
 Numbers = Vec ℕ Global

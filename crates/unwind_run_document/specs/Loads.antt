@@ -15,7 +15,8 @@ use Rattle.unwind_run_document.specs.declared.command.StatedOptions.{StatedOptio
 abbrev pub load_names : List (List ℕ)
 load_names =
     codes "do" ∷ codes "unwinder" ∷ codes "name" ∷ codes "start" ∷ codes "end" ∷ codes "base" ∷ codes "base_svma"
-    ∷ codes "sections" ∷ codes "segments" ∷ codes "lookup" ∷ codes "tables" ∷ codes "debug_frame_beside" ∷ codes "code_rules" ∷ []
+    ∷ codes "sections" ∷ codes "segments" ∷ codes "lookup" ∷ codes "tables" ∷ codes "debug_frame_beside" ∷ codes "code_rules"
+    ∷ codes "rows" ∷ []
 
 -- the load of these parts
 abbrev pub loading_of : ℕ → List ℕ → ℕ → ℕ → ℕ → ℕ → (sections segments : List StatedSection) → StatedOptions → Loading

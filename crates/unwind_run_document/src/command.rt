@@ -86,6 +86,15 @@ pub enum StatedLookup {
     Scan,
 }
 
+/// What the rows of a module's call frames are taken to say.
+#[derive(Clone, Copy, Debug, PartialEq, Eq)]
+pub enum StatedRows {
+    /// What the original takes of them.
+    Published,
+    /// What DWARF says.
+    Whole,
+}
+
 /// What a load asks for beside its sections.
 #[derive(Clone, Copy, Debug, PartialEq, Eq)]
 pub struct StatedOptions {
@@ -96,6 +105,8 @@ pub struct StatedOptions {
     pub debug_frame_beside: bool,
     /// By which rules machine code is read.
     pub code_rules: CodeRules,
+    /// What rows are taken to say.
+    pub rows: StatedRows,
 }
 
 /// A module of an unwinder, by its start.

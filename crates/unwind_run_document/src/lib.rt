@@ -13,7 +13,8 @@ mod walk;
 
 pub use command::{
     AddressRange, Command, FrameKind, LoadCommand, RoadsCommand, Stack, StatedLookup,
-    StatedOptions, StatedSection, StatedTables, StepCommand, UnloadCommand, WalkCommand,
+    StatedOptions, StatedRows, StatedSection, StatedTables, StepCommand, UnloadCommand,
+    WalkCommand,
 };
 pub use document::{Architecture, COMMAND_LIMIT, Document, Policy, WALK_LIMIT, decode};
-pub use registers::StatedRegisters;
+pub use registers::{REGISTER_NUMBERS, StatedRegisters};

@@ -171,6 +171,7 @@ pub(crate) fn load_in(
         "tables",
         "debug_frame_beside",
         "code_rules",
+        "rows",
     ];
     if !has_only(object, &names) {
         return Err(DecodeError::Fault(FaultName::BadCommand));

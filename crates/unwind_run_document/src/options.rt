@@ -3,9 +3,9 @@
 ghost use Rattle.std.specs.Prelude.{◌≡◌, codes};
 ghost use Rattle.serde_json.specs.Find.{get};
 ghost use Rattle.serde_json.specs.View.{view};
-ghost use Rattle.unwind_run_document.specs.Options.{code_rules_at, code_rules_value, flag_at, lookup_at, lookup_value, options_in};
+ghost use Rattle.unwind_run_document.specs.Options.{code_rules_at, code_rules_value, flag_at, lookup_at, lookup_value, options_in, rows_at, rows_value};
 
-use crate::command::{StatedLookup, StatedOptions};
+use crate::command::{StatedLookup, StatedOptions, StatedRows};
 use framehop_code_rules::CodeRules;
 use json_program::FaultName;
 use json_program::check::{Checked, both};
@@ -64,6 +64,30 @@ fn code_rules_field(object: &Value) -> Checked<CodeRules>
     }
 }
 
+// What a value has to name that rows are taken to say.
+fn rows_in(value: &Value) -> Checked<StatedRows>
+    ensures { result ≡ rows_value (view value.now) }
+{
+    let text = text_in(value)?;
+    if text == "published" {
+        Ok(StatedRows::Published)
+    } else if text == "whole" {
+        Ok(StatedRows::Whole)
+    } else {
+        Err(FaultName::BadCommand)
+    }
+}
+
+// What the rows of a load are taken to say, `published` if that isn't stated.
+fn rows_field(object: &Value) -> Checked<StatedRows>
+    ensures { result ≡ rows_at (get (codes "rows") (view object.now)) }
+{
+    match object.get("rows") {
+        Some(value) => rows_in(value),
+        None => Ok(StatedRows::Published),
+    }
+}
+
 // Whether something is asked for, which it isn't if that isn't stated.
 fn flag_field(object: &Value, name: &str) -> Checked<bool>
     ensures { result ≡ flag_at (get name.now (view object.now)) }
@@ -82,14 +106,16 @@ pub(crate) fn options_in(object: &Value) -> Checked<StatedOptions>
     let tables = flag_field(object, "tables");
     let beside = flag_field(object, "debug_frame_beside");
     let rules = code_rules_field(object);
-    let (((lookup, tables), debug_frame_beside), code_rules) = both(
-        both(both(lookup, tables), beside),
-        rules,
+    let rows = rows_field(object);
+    let ((((lookup, tables), debug_frame_beside), code_rules), rows) = both(
+        both(both(both(lookup, tables), beside), rules),
+        rows,
     )?;
     Ok(StatedOptions {
         lookup,
         tables,
         debug_frame_beside,
         code_rules,
+        rows,
     })
 }

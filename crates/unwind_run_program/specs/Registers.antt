@@ -1,11 +1,12 @@
 -- Registers as documents have them: how those that are stated are the registers of an architecture, and how these are written.
-use Rattle.std.specs.Prelude.{ℕ, List, ◌++◌, codes}
+use Rattle.std.specs.Prelude.{ℕ, List, ◌++◌, Some, codes}
 use Rattle.json_program.specs.Lines.{hexadecimal}
 use Rattle.framehop_registers.specs.Registers.{new_registers, ip_of, sp_of, bp_of}
 use Rattle.framehop_registers.specs.RegistersAarch64 as aarch64
 use Rattle.framehop_registers.specs.declared.aarch64.unwindregs.PtrAuthMask.{PtrAuthMask}
 use Rattle.framehop_registers.specs.declared.aarch64.unwindregs.UnwindRegsAarch64.{UnwindRegsAarch64}
 use Rattle.framehop_registers.specs.declared.x86_64.unwindregs.UnwindRegsX86_64.{UnwindRegsX86_64}
+use Rattle.framehop_whole_steps.specs.declared.registers.WholeRegs.{WholeRegs}
 use Rattle.unwind_run_document.specs.declared.registers.StatedRegisters.{StatedRegisters}
 
 -- How documents have the registers of an architecture: the registers that are stated, and the text of registers.
@@ -46,3 +47,13 @@ text_aarch64 registers =
 -- both of them
 abbrev pub forms_aarch64 : RegisterForms UnwindRegsAarch64
 forms_aarch64 = record { stated = stated_aarch64; text = text_aarch64 }
+
+-- ---- with the registers that are known beside those that steps by rules carry
+
+-- the others are those that are stated
+abbrev pub stated_whole : {Registers : Type 0} → RegisterForms Registers → StatedRegisters → WholeRegs Registers
+stated_whole forms registers = record { regs = forms.stated registers; others = Some registers.others }
+
+-- the others aren't written
+abbrev pub whole_forms : {Registers : Type 0} → RegisterForms Registers → RegisterForms (WholeRegs Registers)
+whole_forms forms = record { stated = stated_whole forms; text = λ registers. forms.text registers.regs }

@@ -56,5 +56,5 @@ WriteAlike {Registers} meanings steps =
     → road_lines (meanings limits) forms (data_stated arch) steps ≡ named_alike (scan_line (meanings limits) forms arch steps)
 
 -- each step from an address that is covered so
-abbrev pub EachWritesAlike : {Rule Registers : Type 0} → (StepLimits → Meanings UnwindData Rule Registers) → Type 0
-EachWritesAlike meanings = (steps : RoadSteps) → CoversStep steps → WriteAlike meanings steps
+abbrev pub SameLines : {Rule Registers : Type 0} → (StepLimits → Meanings UnwindData Rule Registers) → Type 0
+SameLines meanings = (steps : RoadSteps) → CoversStep steps → WriteAlike meanings steps

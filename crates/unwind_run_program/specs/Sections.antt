@@ -7,6 +7,7 @@ use Rattle.framehop_loads.specs.UnwindData.{UnwindData, unwind_data_with}
 use Rattle.framehop_loads.specs.declared.load_options.FdeLookup.{FdeLookup}
 use Rattle.framehop_loads.specs.declared.load_options.FdeLookup.TheVariants.{Auto, Index, Scan}
 use Rattle.framehop_loads.specs.declared.load_options.LoadOptions.{LoadOptions}
+use Rattle.framehop_loads.specs.declared.load_options.Rows.{Rows}
 use Rattle.framehop_loads.specs.declared.load_options.Rows.TheVariants as rows
 use Rattle.framehop_loads.specs.declared.load_options.TableArch.{TableArch}
 use Rattle.framehop_modules.specs.Sections.{Sections}
@@ -16,6 +17,8 @@ use Rattle.unwind_run_document.specs.Tasks.{StatedSection}
 use Rattle.unwind_run_document.specs.declared.command.StatedLookup.{StatedLookup}
 use Rattle.unwind_run_document.specs.declared.command.StatedLookup.TheVariants as stated
 use Rattle.unwind_run_document.specs.declared.command.StatedOptions.{StatedOptions}
+use Rattle.unwind_run_document.specs.declared.command.StatedRows.{StatedRows}
+use Rattle.unwind_run_document.specs.declared.command.StatedRows.TheVariants as stated_rows
 
 -- a section's range, as a range of numbers
 abbrev pub range_of : AddressRange → Range ℕ
@@ -57,6 +60,11 @@ lookup_of stated.Scan = Scan
 abbrev pub tables_on : TableArch → Bool → Option TableArch
 tables_on arch asked = if asked then Some arch else None
 
+-- what rows are taken to say
+abbrev pub rows_of : StatedRows → Rows
+rows_of stated_rows.Published = rows.Published
+rows_of stated_rows.Whole = rows.Whole
+
 -- what is asked for, with a table on an architecture if one is
 abbrev pub options_on : TableArch → StatedOptions → LoadOptions
 options_on arch options = record {
@@ -64,7 +72,7 @@ options_on arch options = record {
   tables = tables_on arch options.tables;
   debug_frame_beside = options.debug_frame_beside;
   code_rules = options.code_rules;
-  rows = rows.Published;
+  rows = rows_of options.rows;
 }
 
 -- the unwind data of sections by their names, on an architecture
@@ -73,8 +81,8 @@ data_stated arch options base_svma sections segments = unwind_data_with (options
 
 -- nothing is asked for
 abbrev pub plain : StatedOptions
-plain = options_of stated.Auto false false Published
+plain = options_of stated.Auto false false Published stated_rows.Published
 
 -- each step is to scan the section of call frames
 abbrev pub scanning : StatedOptions
-scanning = options_of stated.Scan false false Published
+scanning = options_of stated.Scan false false Published stated_rows.Published

@@ -9,7 +9,7 @@ use Rattle.json_program.specs.declared.status.Outcome.TheVariants.{Completed, Fa
 use Rattle.framehop_registers.specs.Callback.{Words}
 use Rattle.framehop_unwinder.specs.Attempt.{Meanings}
 use Rattle.framehop_loads.specs.StepLimits.{StepLimits, limits_may_allocate, limits_must_not_allocate}
-use Rattle.framehop.specs.StepMeanings.{meanings_aarch64, meanings_x86_64}
+use Rattle.framehop_whole_modules.specs.StepMeanings.{whole_aarch64, whole_x86_64}
 use Rattle.framehop_loads.specs.UnwindData.{UnwindData}
 use Rattle.framehop_loads.specs.declared.load_options.TableArch.{TableArch}
 use Rattle.framehop_loads.specs.declared.load_options.TableArch.TheVariants as tables
@@ -28,7 +28,7 @@ use Rattle.unwind_run_document.specs.declared.registers.StatedRegisters.{StatedR
 use Rattle.unwind_run_document.specs.Tasks.{StackWords, Loading, RoadSteps, Task, make_unwinder, make_cache, clone_unwinder, remove_unwinder, remove_cache, load_module, unload_module, take_step, take_walk, show_counts, show_occupancy, take_roads}
 use Rattle.unwind_run_document.specs.Document.{Content, content_of}
 use Rattle.unwind_run_program.specs.Lines.{outcome_line, step_line}
-use Rattle.unwind_run_program.specs.Registers.{RegisterForms, forms_aarch64, forms_x86_64}
+use Rattle.unwind_run_program.specs.Registers.{RegisterForms, forms_aarch64, forms_x86_64, whole_forms}
 use Rattle.unwind_run_program.specs.Roads.{stated_section, stated_header, module_at}
 use Rattle.framehop_unwinder.specs.Progress.{SessionModel}
 use Rattle.unwind_run_program.specs.Outputs.{CommandOutput, beginning, writes, output_of_act, output_of_occupancy, output_of_stats, output_of_walk}
@@ -116,8 +116,8 @@ lines_under meanings forms arch limits generation tasks = lines_of (meanings lim
 
 -- the lines of commands on an architecture, from a generation on
 abbrev pub lines_on : Architecture → StepLimits → ℕ → List Task → List ℕ
-lines_on arch.X86_64 limits generation tasks = lines_under meanings_x86_64 forms_x86_64 tables.X86_64 limits generation tasks
-lines_on arch.Aarch64 limits generation tasks = lines_under meanings_aarch64 forms_aarch64 tables.Aarch64 limits generation tasks
+lines_on arch.X86_64 limits generation tasks = lines_under whole_x86_64 (whole_forms forms_x86_64) tables.X86_64 limits generation tasks
+lines_on arch.Aarch64 limits generation tasks = lines_under whole_aarch64 (whole_forms forms_aarch64) tables.Aarch64 limits generation tasks
 
 -- the lines of a document's commands: its policy sets the limits, its counter begins with its generation
 abbrev pub content_lines : Content → List ℕ

@@ -6,12 +6,13 @@ ghost use Rattle.unwind_run_program.specs.Registers.{RegisterForms};
 use framehop::Unwinding;
 use framehop_rules::aarch64::{ArchAarch64, PtrAuthMask, UnwindRegsAarch64};
 use framehop_rules::x86_64::{ArchX86_64, UnwindRegsX86_64};
+use framehop_whole_modules::CarriesRegisters;
 use std::alloc::{AllocError, Global};
 use std::fmt;
 use unwind_run_document::StatedRegisters;
 
 /// An architecture, by how documents state its registers and how these are written.
-pub(crate) trait DocumentArch: Unwinding {
+pub(crate) trait DocumentArch: Unwinding + CarriesRegisters {
     ghost forms: { RegisterForms Self.UnwindRegs };
 
     /// The registers that are stated.

@@ -7,22 +7,24 @@ ghost use Rattle.unwind_run_program.specs.Outputs.{beginning};
 ghost use Rattle.unwind_run_document.specs.Sound.{AreSound};
 ghost use Rattle.unwind_run_document.specs.Document.{nothing_made};
 ghost use Rattle.unwind_run_document.specs.CommandViews.{content_view, tasks_of};
-ghost use Rattle.framehop.specs.ArchMeanings.{meanings_with};
+ghost use Rattle.framehop_whole_modules.specs.Attempts.{whole_with};
+ghost use Rattle.unwind_run_program.specs.Registers.{whole_forms};
 ghost use Rattle.unwind_run_program.specs.Text.{content_lines, ending_of, limits_of_policy, lines_of, lines_under, text_of};
 
 use crate::arch::DocumentArch;
 use crate::perform::{DocumentModules, perform};
-use framehop::{BySections, MayAllocateDuringUnwind, MustNotAllocateDuringUnwind};
+use framehop::{MayAllocateDuringUnwind, MustNotAllocateDuringUnwind};
 use framehop_modules::Generations;
 use framehop_rules::aarch64::ArchAarch64;
 use framehop_rules::x86_64::ArchX86_64;
 use framehop_unwinder::Session;
+use framehop_whole_modules::ByWholeRows;
 use json_program::{DecodeError, Outcome, Program, RunError, Sink, Source, write_all};
 use std::alloc::Global;
 use unwind_run_document::{Architecture, Command, Document, Policy, decode};
 
-/// Modules of an architecture by the bytes of their sections, under a policy.
-type Modules<A, P> = BySections<A, Vec<u8>, P>;
+/// Modules of an architecture by the bytes of their sections, with rows that may be taken whole, under a policy.
+type Modules<A, P> = ByWholeRows<A, Vec<u8>, P>;
 
 /// The program that carries out the commands of a document.
 pub struct UnwindCommands;
@@ -111,8 +113,8 @@ fn run_on<A: DocumentArch, W: Sink>(
     requires writer { W.has_failed writer.old ≡ false }
     requires sound { AreSound nothing_made (tasks_of commands.items) }
     ensures text { WritesText result (W.contents writer.old) (W.contents writer.new) (lines_under
-        (meanings_with A.UnwindRule.meaning A.UnwindRule.fallback A.rows A.pe_attempt A.compact A.first_rule)
-        A.forms A.arch (limits_of_policy policy) generation (tasks_of commands.items)) }
+        (whole_with A.carrying A.UnwindRule.meaning A.UnwindRule.fallback A.rows A.pe_attempt A.compact A.first_rule)
+        (whole_forms A.forms) A.arch (limits_of_policy policy) generation (tasks_of commands.items)) }
     ensures errors { ReportsFailures result false (W.has_failed writer.new) }
 {
     match policy {

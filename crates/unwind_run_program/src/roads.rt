@@ -15,7 +15,8 @@ use framehop_unwinder::Module;
 use std::alloc::{AllocError, Global};
 use std::fmt;
 use unwind_run_document::{
-    AddressRange, RoadsCommand, StatedLookup, StatedOptions, StatedSection, StatedTables,
+    AddressRange, RoadsCommand, StatedLookup, StatedOptions, StatedRows, StatedSection,
+    StatedTables,
 };
 
 /// Nothing is asked for.
@@ -24,6 +25,7 @@ const PLAIN: StatedOptions = StatedOptions {
     tables: false,
     debug_frame_beside: false,
     code_rules: CodeRules::Published,
+    rows: StatedRows::Published,
 };
 
 /// Each step is to scan the section of call frames.
@@ -32,6 +34,7 @@ const SCANNING: StatedOptions = StatedOptions {
     tables: false,
     debug_frame_beside: false,
     code_rules: CodeRules::Published,
+    rows: StatedRows::Published,
 };
 
 /// The length of the module, if the addresses after its start are that many.

@@ -4,19 +4,21 @@ ghost use Rattle.std.specs.Prelude.{◌≡◌, ◌<◌, None, IsSome, IfSome, If
 ghost use Rattle.std.specs.List.{slice_index_or};
 ghost use Rattle.unwind_run_document.specs.CommandViews.{section_view, sections_view};
 ghost use Rattle.unwind_run_program.specs.SectionViews.{HasFirstData};
-ghost use Rattle.unwind_run_program.specs.Sections.{first_data_named, lookup_of, options_on, stated_range_named, tables_on};
+ghost use Rattle.unwind_run_program.specs.Sections.{first_data_named, lookup_of, options_on, rows_of, stated_range_named, tables_on};
 ghost use Rattle.unwind_run_document.specs.declared.command.StatedSection.{StatedSection as Stated};
 
 use crate::arch::DocumentArch;
 use crate::perform::DocumentModules;
 use framehop::{
-    AllocationPolicy, BySections, FdeLookup, LoadOptions, ModuleUnwindData, Rows, TableArch,
-    Tabulating,
+    AllocationPolicy, FdeLookup, LoadOptions, ModuleUnwindData, Rows, TableArch, Tabulating,
 };
 use framehop_modules::ModuleSectionInfo;
+use framehop_whole_modules::{ByWholeRows, WholeRegs};
 use std::alloc::{AllocError, Global};
 use std::ops::Range;
-use unwind_run_document::{StatedLookup, StatedOptions, StatedRegisters, StatedSection};
+use unwind_run_document::{
+    StatedLookup, StatedOptions, StatedRegisters, StatedRows, StatedSection,
+};
 
 /// The sections and segments of a load, whose stated addresses are relative to an address.
 #[derive(Debug, Drop)]
@@ -125,6 +127,16 @@ fn tables_on<A: Tabulating>(asked: bool) -> Option<TableArch>
     if asked { Some(A::table_arch()) } else { None }
 }
 
+// What rows are taken to say.
+fn rows_of(stated: StatedRows) -> Rows
+    ensures { result ≡ rows_of stated }
+{
+    match stated {
+        StatedRows::Published => Rows::Published,
+        StatedRows::Whole => Rows::Whole,
+    }
+}
+
 // What is asked for, with a table on the architecture if one is.
 fn options_on<A: Tabulating>(options: StatedOptions) -> LoadOptions
     ensures { result ≡ options_on A.arch options }
@@ -134,12 +146,13 @@ fn options_on<A: Tabulating>(options: StatedOptions) -> LoadOptions
         tables: tables_on::<A>(options.tables),
         debug_frame_beside: options.debug_frame_beside,
         code_rules: options.code_rules,
-        rows: Rows::Published,
+        rows: rows_of(options.rows),
     }
 }
 
-impl<A: DocumentArch, P: AllocationPolicy> DocumentModules for BySections<A, Vec<u8>, P> {
+impl<A: DocumentArch, P: AllocationPolicy> DocumentModules for ByWholeRows<A, Vec<u8>, P> {
     ghost use Rattle.unwind_run_program.specs.Sections.{data_stated};
+    ghost use Rattle.unwind_run_program.specs.Registers.{whole_forms};
 
     ghost data_of = { data_stated A.arch };
 
@@ -154,13 +167,16 @@ impl<A: DocumentArch, P: AllocationPolicy> DocumentModules for BySections<A, Vec
         ModuleUnwindData::new(alloc, info, options_on::<A>(options))
     }
 
-    ghost forms = { A.forms };
+    ghost forms = { whole_forms A.forms };
 
-    fn stated_registers(stated: StatedRegisters) -> A::UnwindRegs {
-        A::stated_registers(stated)
+    fn stated_registers(stated: StatedRegisters) -> WholeRegs<A::UnwindRegs> {
+        WholeRegs::with_others(A::stated_registers(stated), stated.others)
     }
 
-    fn registers_text(alloc: Global, registers: A::UnwindRegs) -> Result<String, AllocError> {
-        A::registers_text(alloc, registers)
+    fn registers_text(
+        alloc: Global,
+        registers: WholeRegs<A::UnwindRegs>,
+    ) -> Result<String, AllocError> {
+        A::registers_text(alloc, registers.regs)
     }
 }

@@ -8,11 +8,13 @@ pub returns-in_err-ip : goal.returns-in_err-ip
 returns-in_err-ip c =
     same_fault _ _ _ c.from_residual.ensures.1
     (under _ _ _ _ (sym c.has_only.ensures ∙ c.if-not-has_only.false)
-    (ap (result_map (λ p. registers p.0.0 p.0.1 p.1)) (sym c.in_err-ip.was)
-    ∙ three_registers _ _ _ _ _ _ _ _ c.address_field-ip.ensures c.address_field-sp.ensures c.address_field-bp.ensures c.both.ensures c.both-2.ensures))
+    (ap (result_map (λ p. registers p.0.0.0 p.0.0.1 p.0.1 p.1)) (sym c.in_err-ip.was)
+    ∙ three_registers _ _ _ _ _ _ _ _ _ _ _ c.address_field-ip.ensures c.address_field-sp.ensures c.address_field-bp.ensures c.others_in-others.ensures
+    c.both.ensures c.both-2.ensures c.both-3.ensures))
 
 pub returns : goal.returns
 returns c =
     under _ _ _ _ (sym c.has_only.ensures ∙ c.if-not-has_only.false)
-    (ap (result_map (λ p. registers p.0.0 p.0.1 p.1)) (sym c.in_ok-ip.was)
-    ∙ three_registers _ _ _ _ _ _ _ _ c.address_field-ip.ensures c.address_field-sp.ensures c.address_field-bp.ensures c.both.ensures c.both-2.ensures)
+    (ap (result_map (λ p. registers p.0.0.0 p.0.0.1 p.0.1 p.1)) (sym c.in_ok-ip.was)
+    ∙ three_registers _ _ _ _ _ _ _ _ _ _ _ c.address_field-ip.ensures c.address_field-sp.ensures c.address_field-bp.ensures c.others_in-others.ensures
+    c.both.ensures c.both-2.ensures c.both-3.ensures)

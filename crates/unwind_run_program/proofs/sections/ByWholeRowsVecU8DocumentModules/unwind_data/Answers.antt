@@ -6,7 +6,7 @@ use Rattle.framehop_modules.specs.Sections.{Sections}
 use Rattle.unwind_run_document.specs.CommandViews.{sections_view}
 use Rattle.unwind_run_program.specs.SectionViews.{stated}
 use Rattle.unwind_run_program.specs.Sections.{data_stated, sections_stated}
-use Rattle.unwind_run_program.proofs.sections.BySectionsVecU8DocumentModules.unwind_data.Goals as goal
+use Rattle.unwind_run_program.proofs.sections.ByWholeRowsVecU8DocumentModules.unwind_data.Goals as goal
 
 pub returns : goal.returns
 returns g c =
