@@ -6,16 +6,17 @@ use framehop_rules::aarch64::ArchAarch64;
 use framehop_rules::x86_64::ArchX86_64;
 use std::alloc::Global;
 
-// Adds a line for an address: the rule by the code within bounds, and that by all of the code.
+// Adds a line for an address: the rule of a first frame by the code within bounds, that by all of the code, and that of a later frame there.
 fn show_rules<A: WayUnwinding>(
     shown: &mut String,
     code: Code<'_>,
     bounds: CodeRange,
     address: u64,
 ) -> Result<()> {
-    let within = caller_by_way::<A>(code, bounds, address);
-    let in_text = caller_by_way_in_text::<A>(code, bounds, address);
-    write!(shown, "{address}: {within:?}, {in_text:?}\n")?;
+    let within = caller_by_way::<A>(code, bounds, address, true);
+    let in_text = caller_by_way_in_text::<A>(code, bounds, address, true);
+    let later = caller_by_way_in_text::<A>(code, bounds, address, false);
+    write!(shown, "{address}: {within:?}, {in_text:?}, {later:?}\n")?;
     Ok(())
 }
 

@@ -10,7 +10,7 @@ use Rattle.dwarf_frame_rows.specs.Row.{Row}
 use Rattle.dwarf_frame_rows.specs.declared.base_addresses.BaseAddresses.{BaseAddresses}
 use Rattle.dwarf_frame_rows.specs.declared.rules.CfaRule.{CfaRule}
 use Rattle.dwarf_frame_rows.specs.declared.rules.CfaRule.TheVariants.{RegisterAndOffset, Expression}
-use Rattle.framehop.specs.Attempts.{attempt_by_method}
+use Rattle.framehop.specs.Attempts.{attempt_by_method, attempt_by_tables}
 use Rattle.framehop_loads.specs.StepLimits.{StepLimits}
 use Rattle.framehop.specs.Coverage.{Coverage, Covered, Uncovered, NoFde, NoAddress, attempt_by, by_known}
 use Rattle.framehop_index.specs.FdeLookups.{FoundFde, PlacedFrames, fde_for, section_of}
@@ -40,12 +40,13 @@ use Rattle.framehop_rules.specs.Outcome.{Answers, Caller}
 use Rattle.framehop_rules.specs.RuleMeaningAarch64.{rule_meaning}
 use Rattle.framehop_rules.specs.declared.aarch64.unwind_rule.UnwindRuleAarch64.{UnwindRuleAarch64}
 use Rattle.framehop_rules.specs.declared.aarch64.unwind_rule.UnwindRuleAarch64.TheVariants.{NoOpIfFirstFrameOtherwiseFp, UseFramePointer}
-use Rattle.framehop_unwinder.specs.Attempt.{attempt_of}
+use Rattle.framehop_unwinder.specs.Attempt.{Attempt, Says, Evaluates, SaysNothing, attempt_of}
 use Rattle.framehop_unwinder.specs.Frames.{later_frame}
 use Rattle.framehop_unwinder.specs.Judge.{by_attempt, or_else, judge}
 use Rattle.framehop_unwinder.specs.Modules.{Loaded, module_found}
 use Rattle.framehop.specs.WalkLengths.{IsRaised}
 use Rattle.framehop.specs.StepMeanings.{formats_aarch64, meanings_aarch64}
+use Rattle.framehop.specs.WayAttempts.{or_way, way_after, way_before, way_or}
 use Rattle.framehop.proofs.WalkValues.{expression-fits}
 
 -- ---- direct rows
@@ -152,11 +153,28 @@ module _ (rules : RulesRaise) (limits : StepLimits) (registers : UnwindRegsAarch
   format-raised bases base relative (Compact file eh_frame) is = compact-raised bases base relative eh_frame (formats_aarch64.tables.compact file relative false) is
   format-raised bases base relative NoFormat is = rules UseFramePointer registers words caller is
 
+  -- by a way, or by what the tables say
+  way-raised : (earlier rule : Option UnwindRuleAarch64) (said : Attempt UnwindRuleAarch64 UnwindRegsAarch64)
+      → (by_attempt (meanings_aarch64 limits) false registers words said ≡ Answers caller → IsRaised (sp_of registers) (sp_of caller.registers))
+      → by_attempt (meanings_aarch64 limits) false registers words (way_or earlier (or_way said rule)) ≡ Answers caller → IsRaised (sp_of registers) (sp_of caller.registers)
+  way-raised (Some rule) other said tables is = rules rule registers words caller is
+  way-raised None None said tables is = tables is
+  way-raised None (Some rule) (Says other) tables is = tables is
+  way-raised None (Some rule) (Evaluates given) tables is = tables is
+  way-raised None (Some rule) SaysNothing tables is = rules rule registers words caller is
+
+  data-raised : (given : UnwindData) (relative : ℕ)
+      → by_attempt (meanings_aarch64 limits) false registers words ((meanings_aarch64 limits).attempt given relative false) ≡ Answers caller → IsRaised (sp_of registers) (sp_of caller.registers)
+  data-raised given relative is =
+      way-raised (way_before formats_aarch64.ways given relative false) (way_after formats_aarch64.ways given relative false)
+      (attempt_by_tables formats_aarch64.rows formats_aarch64.tables limits given relative false)
+      (format-raised given.bases given.base_svma relative given.format) is
+
   -- by the module that was found
   found-raised : (address : ℕ) (found : Option (Loaded UnwindData))
       → by_attempt (meanings_aarch64 limits) false registers words (attempt_of (meanings_aarch64 limits) false address found) ≡ Answers caller → IsRaised (sp_of registers) (sp_of caller.registers)
   found-raised address None is = rules UseFramePointer registers words caller is
-  found-raised address (Some module_) is = format-raised module_.unwind_data.bases module_.unwind_data.base_svma (address - module_.base) module_.unwind_data.format is
+  found-raised address (Some module_) is = data-raised module_.unwind_data (address - module_.base) is
 
   -- each step
   pub step-raised : (modules : List (Loaded UnwindData)) (return_address : ℕ) → judge (meanings_aarch64 limits) modules (later_frame return_address) registers words ≡ Answers caller → IsRaised (sp_of registers) (sp_of caller.registers)

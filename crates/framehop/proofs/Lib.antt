@@ -12,4 +12,5 @@ pub mod SectionsMade
 pub mod TruthfulLookups
 pub mod WalkEnds
 pub mod WalkValues
+mod WayTrials
 mod WithoutWays

@@ -9,7 +9,7 @@ use Rattle.framehop_rows.specs.RowMeanings.{RowMeanings}
 use Rattle.framehop.specs.Coverage.{attempt_by, by_known, EvaluatesExpression}
 use Rattle.framehop.specs.Methods.{Method, UsesRule, UsesFde, UsesCodes, UsesNothing}
 use Rattle.framehop.specs.FormatMethods.{TableMethods, method_of}
-use Rattle.framehop.specs.WayAttempts.{way_at, way_or}
+use Rattle.framehop.specs.WayAttempts.{or_way, way_after, way_before, way_or}
 use Rattle.framehop_code_ways.specs.Callers.{FirstRule}
 use Rattle.framehop_loads.specs.StepLimits.{StepLimits}
 use Rattle.framehop_loads.specs.UnwindData.{UnwindData}
@@ -40,11 +40,12 @@ abbrev pub attempt_by_tables : {Rule Registers : Type 0} → RowMeanings Rule Re
     → Bool → Attempt Rule Registers
 attempt_by_tables rows tables limits given relative first = attempt_by_method rows limits first (method_of tables given relative first)
 
--- the attempt by a module's data: by a way out of its function, if a first frame goes by one there, or else by its tables
+-- the attempt by a module's data: by a way out of the frame's function, by its tables, or by a way where these say nothing
 abbrev pub attempt_by_format : {Rule Registers : Type 0} → FormatMeanings Rule Registers → StepLimits → UnwindData → ℕ → Bool
     → Attempt Rule Registers
 attempt_by_format m limits given relative first =
-    way_or (way_at m.ways given relative first) (attempt_by_tables m.rows m.tables limits given relative first)
+    way_or (way_before m.ways given relative first)
+    (or_way (attempt_by_tables m.rows m.tables limits given relative first) (way_after m.ways given relative first))
 
 -- other tables that say nothing
 abbrev pub no_tables : {Rule Registers : Type 0} → TableMethods Rule Registers

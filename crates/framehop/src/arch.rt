@@ -1,8 +1,7 @@
 //! Architectures, if modules are unwound by their sections.
 
-ghost use Rattle.std.specs.Prelude.{◌≡◌, IfSome, refl};
+ghost use Rattle.std.specs.Prelude.{◌≡◌, refl};
 ghost use Rattle.framehop.specs.Attempts.{AsksExpression, format_meanings};
-ghost use Rattle.framehop.specs.WayAttempts.{way_at};
 ghost use Rattle.framehop.specs.StepMeanings.{meanings_by};
 ghost use Rattle.framehop.specs.TableMethods.{table_methods};
 
@@ -10,8 +9,9 @@ use crate::call_frames::unwind_frame_by_call_frames;
 use crate::compact::unwind_frame_by_compact;
 use crate::failures::failure_of;
 use crate::pe::unwind_frame_by_pe;
+use crate::ways::{rule_before, said_or_rule};
 use framehop_analysis::InstructionAnalysis;
-use framehop_code_ways::{WayUnwinding, caller_by_way_in_text};
+use framehop_code_ways::WayUnwinding;
 use framehop_compact::CompactUnwindInfoUnwinding;
 use framehop_errors::UnwinderError;
 use framehop_loads::{
@@ -38,25 +38,6 @@ pub trait Unwinding: DwarfUnwinding
 impl Unwinding for ArchX86_64 {}
 
 impl Unwinding for ArchAarch64 {}
-
-// The rule of a way out of the function of a first frame at a relative address, where the module's load asks for it and its tables leave
-// the address to that.
-#[inline(always)]
-fn rule_of_way<A: Unwinding, D: SectionBytes>(
-    unwind_data: &ModuleUnwindData<D>,
-    relative_address: u32,
-    is_first_frame: bool,
-) -> Option<A::UnwindRule>
-    ensures rule { result ≡ way_at A.first_rule unwind_data.now relative_address is_first_frame }
-    ensures valid { IfSome result A.UnwindRule.is_valid }
-{
-    if !is_first_frame {
-        return None;
-    }
-    let code = unwind_data.code()?;
-    let bounds = unwind_data.way_bounds::<A>(relative_address)?;
-    caller_by_way_in_text::<A>(code, bounds, relative_address.into())
-}
 
 /// The architecture `A`, if modules are unwound by their sections. Sections are values of `D`; `P` says
 /// whether a step may allocate.
@@ -102,7 +83,7 @@ impl<A: Unwinding, D: SectionBytes + Drop, P: AllocationPolicy> ModuleUnwinding
         unwind_context: &mut DwarfUnwindContext<P>,
         read_stack: &mut F,
     ) -> Result<UnwindResult<A::UnwindRule>, UnwindFailure> {
-        if let Some(rule) = rule_of_way::<A, D>(unwind_data, relative_address, is_first_frame) {
+        if let Some(rule) = rule_before::<A, D>(unwind_data, relative_address, is_first_frame) {
             return Ok(UnwindResult::ExecRule(rule));
         }
         match unwind_data.format() {
@@ -121,17 +102,20 @@ impl<A: Unwinding, D: SectionBytes + Drop, P: AllocationPolicy> ModuleUnwinding
                 relative_address,
                 read_stack,
             ),
-            ModuleFormat::Compact(file, eh_frame) => unwind_frame_by_compact::<A, P, D, F>(
-                file,
-                eh_frame,
-                unwind_data.bases(),
-                unwind_data.base_svma(),
-                regs,
-                is_first_frame,
-                relative_address,
-                unwind_context,
-                read_stack,
-            ),
+            ModuleFormat::Compact(file, eh_frame) => {
+                let said = unwind_frame_by_compact::<A, P, D, F>(
+                    file,
+                    eh_frame,
+                    unwind_data.bases(),
+                    unwind_data.base_svma(),
+                    regs,
+                    is_first_frame,
+                    relative_address,
+                    unwind_context,
+                    read_stack,
+                );
+                said_or_rule::<A, D>(said, unwind_data, relative_address, is_first_frame)
+            }
             ModuleFormat::NoFormat => Err(failure_of(UnwinderError::NoModuleUnwindData)),
         }
     }

@@ -16,6 +16,7 @@ mod pe;
 pub mod row_laws;
 pub mod rule_laws;
 pub mod walk_laws;
+mod ways;
 pub mod x86_64;
 
 pub use arch::{BySections, Unwinding};

@@ -23,7 +23,7 @@ abbrev pub is_unknown_end : BranchesOut → List Executed → Bool
 is_unknown_end TailCalls way = false
 is_unknown_end Unknown way = ends_by_branch way
 
--- The rule of the first way from a place.
-abbrev pub first_rule : BranchesOut → List ℕ → Bounds → ℕ → Option UnwindRuleX86_64
-first_rule branches_out text bounds at =
+-- The rule of the first way from a place, in first and in later frames.
+abbrev pub first_rule : BranchesOut → List ℕ → Bounds → ℕ → Bool → Option UnwindRuleX86_64
+first_rule branches_out text bounds at is_first =
     option_and_then (λ way. if is_unknown_end branches_out way then None else rule_of_way way) (way_in 128 text bounds at)

@@ -1,7 +1,8 @@
 -- The rule of the first way from a place of a text, on aarch64.
-use Rattle.std.specs.Prelude.{ℕ, ◌-◌, Bool, true, false, if◌then◌else◌, List, length, slice_get, Option, None, option_and_then}
+use Rattle.std.specs.Prelude.{ℕ, ◌-◌, ◌&&◌, not, Bool, true, false, if◌then◌else◌, List, length, slice_get, Option, Some, None, option_and_then}
 use Rattle.std.specs.Option.{option_map_or}
 use Rattle.framehop_rules.specs.declared.aarch64.unwind_rule.UnwindRuleAarch64.{UnwindRuleAarch64}
+use Rattle.framehop_rules.specs.declared.aarch64.unwind_rule.UnwindRuleAarch64.TheVariants.{NoOp, OffsetSp}
 use Rattle.framehop_ways.specs.FirstWay.{way_in}
 use Rattle.framehop_ways.specs.WayRules.{rule_of_way}
 use Rattle.framehop_ways.specs.declared.executed.Bounds.{Bounds}
@@ -23,7 +24,18 @@ abbrev pub is_unknown_end : BranchesOut → List Executed → Bool
 is_unknown_end TailCalls way = false
 is_unknown_end Unknown way = ends_by_branch way
 
+-- Whether the rule of a way leaves the return address in the link register.
+abbrev pub keeps_lr : UnwindRuleAarch64 → Bool
+keeps_lr NoOp = true
+keeps_lr (OffsetSp pairs) = true
+keeps_lr other = false
+
+-- The rule in first frames; and in later ones if it loads the link register, in which a call leaves anything.
+abbrev pub if_known : Bool → UnwindRuleAarch64 → Option UnwindRuleAarch64
+if_known is_first rule = if not is_first && keeps_lr rule then None else Some rule
+
 -- The rule of the first way from a place.
-abbrev pub first_rule : BranchesOut → List ℕ → Bounds → ℕ → Option UnwindRuleAarch64
-first_rule branches_out text bounds at =
-    option_and_then (λ way. if is_unknown_end branches_out way then None else rule_of_way way) (way_in 128 text bounds at)
+abbrev pub first_rule : BranchesOut → List ℕ → Bounds → ℕ → Bool → Option UnwindRuleAarch64
+first_rule branches_out text bounds at is_first =
+    option_and_then (λ way. if is_unknown_end branches_out way then None else option_and_then (if_known is_first) (rule_of_way way))
+    (way_in 128 text bounds at)

@@ -23,20 +23,30 @@ fn rule_from<A: WayUnwinding>(
     code: Code<'_>,
     bounds: CodeRange,
     address: u64,
+    is_first_frame: bool,
 ) -> Option<A::UnwindRule>
-    ensures rule { result ≡ rule_from A.first_rule branches_out bounds (code_of code.entry) address }
-    ensures leads { IfSome result (LeadsFrom A.leads bounds (code_of code.entry) address) }
+    ensures rule { result
+        ≡ rule_from A.first_rule branches_out bounds (code_of code.entry) address is_first_frame }
+    ensures leads { IfSome result (LeadsFrom A.leads bounds (code_of code.entry) address is_first_frame) }
     ensures valid { IfSome result A.UnwindRule.is_valid }
 {
     if !bounds.contains(address) {
         return None;
     }
     let place = code.place_at(address)?;
-    A::first_way_rule(branches_out, code.bytes, places_in(code, bounds), place)
+    A::first_way_rule(
+        branches_out,
+        code.bytes,
+        places_in(code, bounds),
+        place,
+        is_first_frame,
+    )
 }
 
-/// The unwind rule of a first frame at an address by the first way out of its function. `None` if there is no way of at most 128
-/// instructions, if what it does has no rule, or if the address is outside of the bounds or of the code.
+/// The unwind rule of a frame by the first way out of its function from the address where it goes on: of a first frame the instruction
+/// pointer, of a later one its return address. `None` if there is no way of at most 128 instructions, if what it does has no rule, or if
+/// the address is outside of the bounds or of the code, as behind a call of a function that never returns. On aarch64 nothing is known of
+/// the link register in a later frame: there is no rule unless it is loaded.
 ///
 /// A way goes through from one instruction to the next past no bound. It follows branches to each place of the code: one that leads
 /// out of it is a tail call, once something of the caller's was restored. So the code is to be all that a module has.
@@ -44,12 +54,19 @@ pub fn caller_by_way_in_text<A: WayUnwinding>(
     code: Code<'_>,
     bounds: CodeRange,
     address: u64,
+    is_first_frame: bool,
 ) -> Option<A::UnwindRule>
-    ensures rule { result ≡ rule_in_text A.first_rule bounds (code_of code.entry) address }
-    ensures leads { IfSome result (LeadsFrom A.leads bounds (code_of code.entry) address) }
+    ensures rule { result ≡ rule_in_text A.first_rule bounds (code_of code.entry) address is_first_frame }
+    ensures leads { IfSome result (LeadsFrom A.leads bounds (code_of code.entry) address is_first_frame) }
     ensures valid { IfSome result A.UnwindRule.is_valid }
 {
-    rule_from::<A>(BranchesOut::TailCalls, code, bounds, address)
+    rule_from::<A>(
+        BranchesOut::TailCalls,
+        code,
+        bounds,
+        address,
+        is_first_frame,
+    )
 }
 
 /// As `caller_by_way_in_text`, by the code within the bounds alone, so that the answer is the same whatever code is outside of them. A
@@ -59,12 +76,20 @@ pub fn caller_by_way<A: WayUnwinding>(
     code: Code<'_>,
     bounds: CodeRange,
     address: u64,
+    is_first_frame: bool,
 ) -> Option<A::UnwindRule>
-    ensures rule { result ≡ rule_by_way A.first_rule bounds (code_of code.entry) address }
-    ensures leads { IfSome result (LeadsFrom A.leads bounds (within bounds (code_of code.entry)) address) }
-    ensures alike { IsAlike A.first_rule bounds (code_of code.entry) address result }
+    ensures rule { result ≡ rule_by_way A.first_rule bounds (code_of code.entry) address is_first_frame }
+    ensures leads { IfSome result
+        (LeadsFrom A.leads bounds (within bounds (code_of code.entry)) address is_first_frame) }
+    ensures alike { IsAlike A.first_rule bounds (code_of code.entry) address is_first_frame result }
     ensures valid { IfSome result A.UnwindRule.is_valid }
 {
     parts_are_same();
-    rule_from::<A>(BranchesOut::Unknown, code.within(bounds), bounds, address)
+    rule_from::<A>(
+        BranchesOut::Unknown,
+        code.within(bounds),
+        bounds,
+        address,
+        is_first_frame,
+    )
 }

@@ -42,6 +42,7 @@ impl WayUnwinding for ArchX86_64 {
         text: &[u8],
         bounds: Bounds,
         at: usize,
+        is_first_frame: bool,
     ) -> Option<UnwindRuleX86_64> {
         ways_return();
         let way = first_way(text, bounds, at)?;

@@ -2,9 +2,9 @@
 --
 -- Calls, plain instructions and stores of other registers may do anything but what the calling convention asks of a function: they leave
 -- the stack pointer, x29 and the words from which the function loads x29 and x30 afterwards.
-use Rattle.std.specs.Prelude.{ℕ, ◌≡◌, ◌<◌, ◌^◌, Bool, true, false, IsTrue, if◌then◌else◌, ℤ, pos, zero, ◌+ℤ◌, List, [], ◌∷◌}
+use Rattle.std.specs.Prelude.{ℕ, ◌≡◌, ◌<◌, ◌^◌, Bool, true, false, IsTrue, Some, if◌then◌else◌, ℤ, pos, zero, ◌+ℤ◌, List, [], ◌∷◌}
 use Rattle.framehop_registers.specs.Callback.{Words}
-use Rattle.framehop_registers.specs.RegistersAarch64.{stripped_address, mask_of}
+use Rattle.framehop_registers.specs.RegistersAarch64.{stripped_address, mask_of, lr_of, sp_of, fp_of}
 use Rattle.framehop_registers.specs.declared.aarch64.unwindregs.PtrAuthMask.{PtrAuthMask}
 use Rattle.framehop_registers.specs.declared.aarch64.unwindregs.UnwindRegsAarch64.{UnwindRegsAarch64}
 use Rattle.framehop_rules.specs.Outcome.{Answers, Caller}
@@ -12,7 +12,7 @@ use Rattle.framehop_rules.specs.RuleMeaningAarch64.{rule_meaning}
 use Rattle.framehop_rules.specs.declared.aarch64.unwind_rule.UnwindRuleAarch64.{UnwindRuleAarch64}
 use Rattle.framehop_analysis.specs.MachineAarch64.{State, moved, put, leave}
 use Rattle.framehop_analysis.specs.PrologueInstructionsAarch64.{register, with_word}
-use Rattle.framehop_analysis.specs.ReturnsAarch64.{IsAt, HasReturned}
+use Rattle.framehop_analysis.specs.ReturnsAarch64.{HasReturned}
 use Rattle.framehop_ways.specs.Values.{is_carried}
 use Rattle.framehop_ways.specs.declared.executed.Executed.{Executed}
 use Rattle.framehop_ways.specs.declared.instruction.Access.{Access}
@@ -93,9 +93,18 @@ abbrev pub Runs : PtrAuthMask → (ℕ → Bool) → List Executed → State →
 Runs mask kept [] s t = s ≡ t
 Runs mask kept (one ∷ more) s t = (mid : State) × IsStep mask kept one.instruction s mid × Runs mask kept more mid t
 
--- The caller that the rule gives to a first frame is where the machine is once it has executed the way.
-abbrev pub WayReturns : List Executed → UnwindRuleAarch64 → Type 0
-WayReturns way rule =
+-- The frame is where the machine is, a later one where its call has returned: the stack pointer and x29 are the machine's, and the words that
+-- can be read are those of the memory. The link register is the machine's, under the mask, in a first frame alone: a call leaves anything in it.
+pub record IsFrameAt (is_first : Bool) (state : State) (registers : UnwindRegsAarch64) (words : Words) : Type 0 where
+  pub fits : state.sp < 2 ^ 64
+  pub sp : state.sp ≡ sp_of registers
+  pub fp : state.fp ≡ fp_of registers
+  pub lr : is_first ≡ true → stripped_address (mask_of registers) state.lr ≡ stripped_address (mask_of registers) (lr_of registers)
+  pub part : (at word : ℕ) → words at ≡ Some word → state.memory at ≡ word
+
+-- The caller that the rule gives to a frame, a first or a later one, is where the machine is once it has executed the way.
+abbrev pub WayReturns : (is_first : Bool) → List Executed → UnwindRuleAarch64 → Type 0
+WayReturns is_first way rule =
     (kept : ℕ → Bool) (s t : State) (registers : UnwindRegsAarch64) (words : Words) (caller : Caller UnwindRegsAarch64)
-    → Runs (mask_of registers) kept way s t → s.fp < 2 ^ 64 → IsAt s registers words → rule_meaning rule true registers words ≡ Answers caller
-    → HasReturned (leave [] t) registers caller
+    → Runs (mask_of registers) kept way s t → s.fp < 2 ^ 64 → IsFrameAt is_first s registers words
+    → rule_meaning rule is_first registers words ≡ Answers caller → HasReturned (leave [] t) registers caller

@@ -89,23 +89,24 @@ record IsRestored (s : State) (registers : UnwindRegsX86_64) (bytes words : ℕ)
   pub frame_is : IsFrame frame (sp_of registers + bytes) (s.memory (sp_of registers + 8 * words))
   pub in_reach : sp_of registers + 8 * words < 2 ^ 64
 
-found : (s : State) (registers : UnwindRegsX86_64) (words : Words) → IsAt s registers words → (at bp : ℕ) → nat_lt at (sp_of registers) ≡ false → stored_bp true registers words at ≡ Answers bp
+found : (first : Bool) (s : State) (registers : UnwindRegsX86_64) (words : Words) → IsAt s registers words → (at bp : ℕ) → nat_lt at (sp_of registers) ≡ false → stored_bp first registers words at ≡ Answers bp
     → s.memory at ≡ bp
-found s registers words is_at at bp above is = by (words at) refl is
+found first s registers words is_at at bp above is = by first (words at) refl is
   where
-    by : (word : Option ℕ) → words at ≡ word
-        → (elim word as (λ _. Outcome ℕ) [ Some value ↦ Answers value | None ↦ if true && nat_lt at (sp_of registers) then Answers (bp_of registers) else Refuses (CouldNotReadStack at) ]) ≡ Answers bp
+    by : (first : Bool) (word : Option ℕ) → words at ≡ word
+        → (elim word as (λ _. Outcome ℕ) [ Some value ↦ Answers value | None ↦ if first && nat_lt at (sp_of registers) then Answers (bp_of registers) else Refuses (CouldNotReadStack at) ]) ≡ Answers bp
         → s.memory at ≡ bp
-    by (Some value) there same = is_at.part at bp (let e : value ≡ bp = cc in there ∙ ap Some e)
-    by None there same = cc
+    by first (Some value) there same = is_at.part at bp (let e : value ≡ bp = cc in there ∙ ap Some e)
+    by true None there same = cc
+    by false None there same = cc
 
-restored_is : (s : State) (registers : UnwindRegsX86_64) (words : Words) → IsAt s registers words → (bytes offset : ℕ) (frame : StackFrame)
-    → restored_frame true registers words bytes (pos 8 *ℤ pos offset) ≡ Answers frame → IsRestored s registers bytes offset frame
-restored_is s registers words is_at bytes offset frame is =
-    let last : ℕ → ℕ → Outcome StackFrame = λ sp stored_at. and_then (stored_bp true registers words stored_at) (λ bp. Answers (sp, bp)) in
+restored_is : (first : Bool) (s : State) (registers : UnwindRegsX86_64) (words : Words) → IsAt s registers words → (bytes offset : ℕ) (frame : StackFrame)
+    → restored_frame first registers words bytes (pos 8 *ℤ pos offset) ≡ Answers frame → IsRestored s registers bytes offset frame
+restored_is first s registers words is_at bytes offset frame is =
+    let last : ℕ → ℕ → Outcome StackFrame = λ sp stored_at. and_then (stored_bp first registers words stored_at) (λ bp. Answers (sp, bp)) in
     let (sp, sp_is, more) = and_then-answers (address (pos (sp_of registers) +ℤ pos bytes)) (λ sp. and_then (address (pos (sp_of registers) +ℤ pos 8 *ℤ pos offset)) (last sp)) frame is in
     let (at, at_is, read) = and_then-answers (address (pos (sp_of registers) +ℤ pos 8 *ℤ pos offset)) (last sp) frame more in
-    let (bp, bp_is, there) = and_then-answers (stored_bp true registers words at) (λ bp. Answers (sp, bp)) frame read in
+    let (bp, bp_is, there) = and_then-answers (stored_bp first registers words at) (λ bp. Answers (sp, bp)) frame read in
     let same : (sp, bp) ≡ frame = cc in
     let high = above-answers (sp_of registers) bytes sp sp_is in
     let at_same : at ≡ sp_of registers + 8 * offset = omega (arith, ints, address-answers (pos (sp_of registers) +ℤ pos 8 *ℤ pos offset) at at_is) in
@@ -113,7 +114,7 @@ restored_is s registers words is_at bytes offset frame is =
     record {
       frame_is = record {
         has_sp = sym (ap (λ (f : StackFrame). f.0) same) ∙ high;
-        has_bp = sym (ap (λ (f : StackFrame). f.1) same) ∙ sym (found s registers words is_at at bp not_below bp_is) ∙ ap s.memory at_same;
+        has_bp = sym (ap (λ (f : StackFrame). f.1) same) ∙ sym (found first s registers words is_at at bp not_below bp_is) ∙ ap s.memory at_same;
         fits = omega (arith, high, above-fits (sp_of registers) bytes sp sp_is);
       };
       in_reach = omega (arith, at_same, above-fits (sp_of registers) (8 * offset) at at_is);
@@ -174,11 +175,11 @@ raised_returns s t registers words caller bytes frame is_at fits frame_is is sp_
     (sp_is ∙ not_wrapped s.sp (sp_of registers + bytes) (pos bytes) (omega (arith, ints, is_at.sp)) raised.fits) (bp_is ∙ stays s.bp fits ∙ is_at.bp)
     (below_raised s t registers bytes is_at.sp raised.fits to_is)
 
-restored_returns : (s t : State) (registers : UnwindRegsX86_64) (words : Words) (caller : Caller UnwindRegsX86_64) (bytes offset : ℕ) (frame : StackFrame) → IsAt s registers words
-    → restored_frame true registers words bytes (pos 8 *ℤ pos offset) ≡ Answers frame → returned_caller registers words frame ≡ Answers caller → (machine.returned t).sp ≡ moved s.sp (pos bytes)
+restored_returns : (first : Bool) (s t : State) (registers : UnwindRegsX86_64) (words : Words) (caller : Caller UnwindRegsX86_64) (bytes offset : ℕ) (frame : StackFrame) → IsAt s registers words
+    → restored_frame first registers words bytes (pos 8 *ℤ pos offset) ≡ Answers frame → returned_caller registers words frame ≡ Answers caller → (machine.returned t).sp ≡ moved s.sp (pos bytes)
     → t.bp ≡ s.memory (moved s.sp (pos 8 *ℤ pos offset)) → t.memory t.sp ≡ s.memory (moved s.sp (pos bytes -ℤ pos 8)) → HasReturned (machine.returned t) caller
-restored_returns s t registers words caller bytes offset frame is_at frame_is is sp_is bp_is to_is =
-    let restored = restored_is s registers words is_at bytes offset frame frame_is in
+restored_returns first s t registers words caller bytes offset frame is_at frame_is is sp_is bp_is to_is =
+    let restored = restored_is first s registers words is_at bytes offset frame frame_is in
     returns_to s t registers words caller frame (sp_of registers + bytes) (s.memory (sp_of registers + 8 * offset)) is_at is restored.frame_is
     (sp_is ∙ not_wrapped s.sp (sp_of registers + bytes) (pos bytes) (omega (arith, ints, is_at.sp)) restored.frame_is.fits)
     (bp_is ∙ ap s.memory (not_wrapped s.sp (sp_of registers + 8 * offset) (pos 8 *ℤ pos offset) (omega (arith, ints, is_at.sp)) restored.in_reach))
@@ -195,46 +196,46 @@ followed_returns s t registers words caller frame is_at fits frame_is is sp_is b
 
 -- ---- each rule
 
-rule_returns : (s t : State) (registers : UnwindRegsX86_64) (words : Words) (caller : Caller UnwindRegsX86_64) (left : Returned) (rule : UnwindRuleX86_64) (frame : StackFrame) → IsAt s registers words
-    → s.sp < 2 ^ 64 → s.bp < 2 ^ 64 → HasFrameIfUsed rule s → HasLeft s left t → IsRuleOf left rule → moves rule true registers words ≡ Answers frame
+rule_returns : (first : Bool) (s t : State) (registers : UnwindRegsX86_64) (words : Words) (caller : Caller UnwindRegsX86_64) (left : Returned) (rule : UnwindRuleX86_64) (frame : StackFrame) → IsAt s registers words
+    → s.sp < 2 ^ 64 → s.bp < 2 ^ 64 → HasFrameIfUsed rule s → HasLeft s left t → IsRuleOf left rule → moves rule first registers words ≡ Answers frame
     → returned_caller registers words frame ≡ Answers caller → HasReturned (machine.returned t) caller
-rule_returns s t registers words caller left JustReturn frame is_at sp_fits bp_fits used has is_rule frame_is is =
+rule_returns first s t registers words caller left JustReturn frame is_at sp_fits bp_fits used has is_rule frame_is is =
     let now = subst (λ (r : Returned). HasLeft s r t) is_rule has in
     raised_returns s t registers words caller 8 frame is_at bp_fits frame_is is now.sp now.bp now.to
-rule_returns s t registers words caller left (OffsetSp x) frame is_at sp_fits bp_fits used has is_rule frame_is is =
+rule_returns first s t registers words caller left (OffsetSp x) frame is_at sp_fits bp_fits used has is_rule frame_is is =
     let now = subst (λ (r : Returned). HasLeft s r t) is_rule has in
     raised_returns s t registers words caller (8 * x) frame is_at bp_fits frame_is is now.sp now.bp now.to
-rule_returns s t registers words caller left (OffsetSpAndRestoreBp x (pos y)) frame is_at sp_fits bp_fits used has is_rule frame_is is =
+rule_returns first s t registers words caller left (OffsetSpAndRestoreBp x (pos y)) frame is_at sp_fits bp_fits used has is_rule frame_is is =
     let now = subst (λ (r : Returned). HasLeft s r t) is_rule.1 has in
-    restored_returns s t registers words caller (8 * x) y frame is_at frame_is is now.sp now.bp now.to
-rule_returns s t registers words caller left (OffsetSpAndRestoreBp x (negsuc y)) frame is_at sp_fits bp_fits used has is_rule frame_is is = absurd (omega (arith, ints, is_rule.0))
-rule_returns s t registers words caller left UseFramePointer frame is_at sp_fits bp_fits used has is_rule frame_is is =
+    restored_returns first s t registers words caller (8 * x) y frame is_at frame_is is now.sp now.bp now.to
+rule_returns first s t registers words caller left (OffsetSpAndRestoreBp x (negsuc y)) frame is_at sp_fits bp_fits used has is_rule frame_is is = absurd (omega (arith, ints, is_rule.0))
+rule_returns first s t registers words caller left UseFramePointer frame is_at sp_fits bp_fits used has is_rule frame_is is =
     let now = subst (λ (r : Returned). HasLeft s r t) is_rule has in
     let (not_zero, there) = past-end (bp_of registers == 0) (by_frame_pointer registers words) frame frame_is in
     followed_returns s t registers words caller frame is_at bp_fits there is now.sp (now.bp used) (now.to used)
-rule_returns s t registers words caller left EndOfStack frame is_at sp_fits bp_fits used has is_rule frame_is is = absurd is_rule
-rule_returns s t registers words caller left JustReturnIfFirstFrameOtherwiseFp frame is_at sp_fits bp_fits used has is_rule frame_is is = absurd is_rule
-rule_returns s t registers words caller left (OffsetSpAndPopRegisters x count number) frame is_at sp_fits bp_fits used has is_rule frame_is is = absurd is_rule
+rule_returns first s t registers words caller left EndOfStack frame is_at sp_fits bp_fits used has is_rule frame_is is = absurd is_rule
+rule_returns first s t registers words caller left JustReturnIfFirstFrameOtherwiseFp frame is_at sp_fits bp_fits used has is_rule frame_is is = absurd is_rule
+rule_returns first s t registers words caller left (OffsetSpAndPopRegisters x count number) frame is_at sp_fits bp_fits used has is_rule frame_is is = absurd is_rule
 
 -- now everything holds what it does
 held_now : (kept : ℕ → Bool) (s : State) → s.sp < 2 ^ 64 → s.bp < 2 ^ 64 → IsHeld kept s values_now [] s
 held_now kept s sp_fits bp_fits = record { both = record { sp = sym (stays s.sp sp_fits); bp = sym (stays s.bp bp_fits) }; words = words_now kept s }
 
 -- a rule of a way pops no list of registers
-meaning_is : (left : Returned) (rule : UnwindRuleX86_64) (registers : UnwindRegsX86_64) (words : Words) → IsRuleOf left rule
-    → rule_meaning rule true registers words ≡ and_then (moves rule true registers words) (returned_caller registers words)
-meaning_is left JustReturn registers words is_rule = refl
-meaning_is left (OffsetSp x) registers words is_rule = refl
-meaning_is left (OffsetSpAndRestoreBp x y) registers words is_rule = refl
-meaning_is left UseFramePointer registers words is_rule = refl
-meaning_is left EndOfStack registers words is_rule = absurd is_rule
-meaning_is left JustReturnIfFirstFrameOtherwiseFp registers words is_rule = absurd is_rule
-meaning_is left (OffsetSpAndPopRegisters x count number) registers words is_rule = absurd is_rule
+meaning_is : (first : Bool) (left : Returned) (rule : UnwindRuleX86_64) (registers : UnwindRegsX86_64) (words : Words) → IsRuleOf left rule
+    → rule_meaning rule first registers words ≡ and_then (moves rule first registers words) (returned_caller registers words)
+meaning_is first left JustReturn registers words is_rule = refl
+meaning_is first left (OffsetSp x) registers words is_rule = refl
+meaning_is first left (OffsetSpAndRestoreBp x y) registers words is_rule = refl
+meaning_is first left UseFramePointer registers words is_rule = refl
+meaning_is first left EndOfStack registers words is_rule = absurd is_rule
+meaning_is first left JustReturnIfFirstFrameOtherwiseFp registers words is_rule = absurd is_rule
+meaning_is first left (OffsetSpAndPopRegisters x count number) registers words is_rule = absurd is_rule
 
-pub way_returns : (way : List Executed) (rule : UnwindRuleX86_64) → IsRuleOfWay way rule → WayReturns way rule
-way_returns way rule (held, held_is, is_rule) kept s t sp_fits bp_fits used run is_kept registers words caller is_at is =
+pub way_returns : (first : Bool) (way : List Executed) (rule : UnwindRuleX86_64) → IsRuleOfWay way rule → WayReturns first way rule
+way_returns first way rule (held, held_is, is_rule) kept s t sp_fits bp_fits used run is_kept registers words caller is_at is =
     let end = has_run kept s way values_now [] s t held (held_now kept s sp_fits bp_fits) run held_is in
     let left = has_left kept s held.0 held.1 t end is_kept in
-    let meaning : and_then (moves rule true registers words) (returned_caller registers words) ≡ Answers caller = sym (meaning_is (returned held.0 held.1) rule registers words is_rule) ∙ is in
-    let (frame, frame_is, more) = and_then-answers (moves rule true registers words) (returned_caller registers words) caller meaning in
-    rule_returns s t registers words caller (returned held.0 held.1) rule frame is_at sp_fits bp_fits used left is_rule frame_is more
+    let meaning : and_then (moves rule first registers words) (returned_caller registers words) ≡ Answers caller = sym (meaning_is first (returned held.0 held.1) rule registers words is_rule) ∙ is in
+    let (frame, frame_is, more) = and_then-answers (moves rule first registers words) (returned_caller registers words) caller meaning in
+    rule_returns first s t registers words caller (returned held.0 held.1) rule frame is_at sp_fits bp_fits used left is_rule frame_is more

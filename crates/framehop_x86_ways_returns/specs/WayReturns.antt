@@ -3,13 +3,17 @@
 -- Calls, plain instructions and stores of other registers may do anything but what the calling convention asks of a function: they leave
 -- RSP, RBP and the words from which the function loads these and the return address afterwards; a call those that aren't below RSP.
 use Rattle.std.specs.Prelude.{ℕ, ◌≡◌, ◌+◌, ◌<◌, ◌^◌, Bool, false, IsTrue, pos, negsuc, List, [], ◌∷◌, Option, Some, None}
+use Rattle.framehop_registers.specs.Callback.{Words}
 use Rattle.framehop_registers.specs.declared.x86_64.unwindregs.Reg.{Reg}
 use Rattle.framehop_registers.specs.declared.x86_64.unwindregs.Reg.TheVariants.{RSP, RBP}
+use Rattle.framehop_registers.specs.declared.x86_64.unwindregs.UnwindRegsX86_64.{UnwindRegsX86_64}
+use Rattle.framehop_rules.specs.Outcome.{Answers, Caller}
+use Rattle.framehop_rules.specs.RuleMeaning.{rule_meaning}
 use Rattle.framehop_rules.specs.declared.x86_64.unwind_rule.UnwindRuleX86_64.{UnwindRuleX86_64}
 use Rattle.framehop_rules.specs.declared.x86_64.unwind_rule.UnwindRuleX86_64.TheVariants.{UseFramePointer}
 use Rattle.framehop_analysis.specs.Machine.{State, updated, returned}
 use Rattle.framehop_analysis.specs.MachineAarch64.{moved}
-use Rattle.framehop_analysis.specs.Returns.{ReturnsTo}
+use Rattle.framehop_analysis.specs.Returns.{IsAt, HasReturned}
 use Rattle.framehop_x86_instructions.specs.Registers.{contains}
 use Rattle.framehop_x86_instructions.specs.declared.address.Address.{Address}
 use Rattle.framehop_x86_instructions.specs.declared.address.Base.{Base}
@@ -109,8 +113,15 @@ abbrev pub HasFrameIfUsed : UnwindRuleX86_64 → State → Type 0
 HasFrameIfUsed UseFramePointer s = HasFrame s
 HasFrameIfUsed other s = Unit {0}
 
--- The caller that the rule gives to a first frame is where the machine is once it has executed the way, and returned by the word at RSP.
-abbrev pub WayReturns : List Executed → UnwindRuleX86_64 → Type 0
-WayReturns way rule =
+-- Each caller that a rule gives to a frame, a first or a later one, where the machine is in one state is where it is in another, after its
+-- return. A later frame is where its call has returned.
+abbrev pub ReturnsTo : (is_first : Bool) → UnwindRuleX86_64 → State → State → Type 0
+ReturnsTo is_first rule state after =
+    (registers : UnwindRegsX86_64) (words : Words) (caller : Caller UnwindRegsX86_64)
+    → IsAt state registers words → rule_meaning rule is_first registers words ≡ Answers caller → HasReturned after caller
+
+-- The caller that the rule gives is where the machine is once it has executed the way, and returned by the word at RSP.
+abbrev pub WayReturns : (is_first : Bool) → List Executed → UnwindRuleX86_64 → Type 0
+WayReturns is_first way rule =
     (kept : ℕ → Bool) (s t : State) → s.sp < 2 ^ 64 → s.bp < 2 ^ 64 → HasFrameIfUsed rule s → Runs kept way s t → IsTrue (kept t.sp)
-    → ReturnsTo rule s (returned t)
+    → ReturnsTo is_first rule s (returned t)

@@ -1,4 +1,4 @@
-use Rattle.std.proofs.Common.{◌≤◌, subst, ℕ, List, length, Option, Some, None, IfSome}
+use Rattle.std.proofs.Common.{◌≤◌, subst, ℕ, Bool, List, length, Option, Some, None, IfSome}
 use Rattle.framehop_rules.specs.declared.x86_64.unwind_rule.UnwindRuleX86_64.{UnwindRuleX86_64}
 use Rattle.framehop_x86_ways.specs.WayRules.{IsRuleOfWay}
 use Rattle.framehop_x86_ways.specs.Ways.{IsWay}
@@ -9,17 +9,17 @@ use Rattle.framehop_code_ways.specs.Ways.{IsLedTo}
 use Rattle.framehop_code_ways.proofs.Valid.{valid_way}
 use Rattle.framehop_code_ways.proofs.x86_64.ArchX86_64WayUnwinding.first_way_rule.Goals as goal
 
-led : (text : List ℕ) (bounds : Bounds) (at : ℕ) (way : List Executed) (rule : Option UnwindRuleX86_64) → IsWay text bounds at way
-    → length way ≤ 128 → IfSome rule (λ one. IsRuleOfWay way one) → ((list : List Executed) (one : UnwindRuleX86_64) → IsRuleOfWay list one → WayReturns list one)
-    → IfSome rule (λ one. IsLedTo text bounds at one)
-led text bounds at way None spelled few is law = tt
-led text bounds at way (Some rule) spelled few is law = record { way = way; spelled = spelled; few = few; returns = law way rule is }
+led : (text : List ℕ) (bounds : Bounds) (at : ℕ) (first : Bool) (way : List Executed) (rule : Option UnwindRuleX86_64) → IsWay text bounds at way
+    → length way ≤ 128 → IfSome rule (λ one. IsRuleOfWay way one) → ((first : Bool) (list : List Executed) (one : UnwindRuleX86_64) → IsRuleOfWay list one → WayReturns first list one)
+    → IfSome rule (λ one. IsLedTo text bounds at first one)
+led text bounds at first way None spelled few is law = tt
+led text bounds at first way (Some rule) spelled few is law = record { way = way; spelled = spelled; few = few; returns = law first way rule is }
 
 pub returns-clause-leads : goal.returns-clause-leads
 returns-clause-leads c =
     let way = c.in_ok-way.way.items in
     let same = c.as_slice-2.ensures.value in
-    led c.args.text.now c.args.bounds c.args.at way c.way_rule.result c.in_ok-way.ensures.way
+    led c.args.text.now c.args.bounds c.args.at c.args.is_first_frame way c.way_rule.result c.in_ok-way.ensures.way
     (subst (λ (xs : List Executed). length xs ≤ 128) same c.as_slice-2.ensures.fits)
     (subst (λ (xs : List Executed). IfSome c.way_rule.result (λ one. IsRuleOfWay xs one)) same c.way_rule.ensures.is) c.ways_return.ensures
 
