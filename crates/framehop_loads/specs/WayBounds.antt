@@ -1,4 +1,4 @@
--- Where a first frame goes by a way out of its function, before what tables say: the bounds of the code around it, by a module's format.
+-- Where a frame can go by a way out of its function: the bounds of the code around its address, by a module's format.
 -- Addresses are relative to the module's base.
 use Rattle.std.specs.Prelude.{ℕ, Bool, if◌then◌else◌, Option, Some, None, is_some, Ok, Err}
 use Rattle.framehop_code.specs.Ranges.{everywhere}

@@ -154,7 +154,7 @@ impl<D: SectionBytes> CompactModule<D> {
         lent(&self.text)
     }
 
-    /// The bounds of the code around a relative address of a first frame, unless that is in stubs.
+    /// The bounds of the code around a relative address, unless that is in stubs.
     pub(crate) fn way_bounds<A: CompactUnwindInfoUnwinding>(
         &self,
         relative_address: u32,

@@ -299,8 +299,8 @@ impl<D: SectionBytes> ModuleUnwindData<D> {
         }
     }
 
-    /// The bounds of the code around a relative address, if a first frame there goes by a way out of its function before what the tables
-    /// say: in code that no FDE and no row of a PE file covers, and in each function of a Mach-O file.
+    /// The bounds of the code around a relative address, if a frame there can go by a way out of its function: in code that no FDE and no
+    /// row of a PE file covers, and in a Mach-O file but for its stubs.
     pub fn way_bounds<A: CompactUnwindInfoUnwinding>(
         &self,
         relative_address: u32,
