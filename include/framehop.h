@@ -214,11 +214,11 @@ enum {
     FRAMEHOP_LOOKUP_SCAN = 2   /* by reading the section at each step */
 };
 
-/* By which rules the machine code of a module is read in first frames. */
+/* By which rules the machine code of a module is read: in first frames, and by ways in later ones too. */
 enum {
     FRAMEHOP_CODE_PUBLISHED = 0, /* by those of framehop */
     FRAMEHOP_CODE_KNOWN = 1,     /* by what is known of the code: ends of epilogs in PE files, and what __stub_helper has pushed */
-    FRAMEHOP_CODE_WAYS = 2       /* so, and by ways out of functions, where no table has the address and in functions of Mach-O files */
+    FRAMEHOP_CODE_WAYS = 2       /* so, and by ways out of functions: where no table has the address, and in functions of Mach-O files */
 };
 
 /* A file that is mapped in the profiled process. */
