@@ -6,7 +6,7 @@ use framehop_rules::aarch64::ArchAarch64;
 use framehop_rules::x86_64::ArchX86_64;
 use std::alloc::Global;
 
-// Adds a line for an address: the rule of a first frame by the code within bounds, that by all of the code, and that of a later frame there.
+// Adds a line for an address: the rule of a first frame by the code within bounds, that by all of the code, and a later frame's.
 fn show_rules<A: WayUnwinding>(
     shown: &mut String,
     code: Code<'_>,
