@@ -67,6 +67,7 @@ impl FrameNames {
     fn add(&mut self, text: &[u8]) -> Result<u32, AllocError>
         ensures number { IfOk result (λ number. slice_get self.new number ≡ Some text.now) }
         ensures names { OnOk result (self.new ≡ self.old ++ text.now ∷ []) }
+        ensures kept { HasAtMostOneMore self.old self.new text.now }
     {
         let Ok(number) = u32::try_from(self.texts.len()) else {
             return Err(AllocError);
@@ -82,7 +83,7 @@ impl FrameNames {
     /// The number of a name, which gets the next one if it is new. Fails if memory is refused, or if there are 2^32 names.
     pub fn number_of(&mut self, text: &[u8]) -> Result<u32, AllocError>
         ensures number { IfOk result (λ number. slice_get self.new number ≡ Some text.now) }
-        ensures names { OnOk result (HasAtMostOneMore self.old self.new text.now) }
+        ensures names { HasAtMostOneMore self.old self.new text.now }
     {
         let known = self.numbers.get(text).copied();
         if let Some(number) = known {
