@@ -2,7 +2,7 @@
 use Rattle.std.proofs.Common.{◌≡◌, ℕ, zero, suc, List, [], ◌∷◌, ◌++◌, inl, inr, Some}
 use Rattle.std.specs.Prelude.{slice_get}
 use Rattle.folded_stacks.specs.FrameNames.{HasAtMostOneMore}
-use Rattle.fold_stacks.specs.KeptNumbers.{KeepsNumbers}
+use Rattle.fold_stacks.specs.Kept.{KeepsNumbers}
 
 in-front : (names others : List (List ℕ)) (number : ℕ) (name : List ℕ) → slice_get names number ≡ Some name → slice_get (names ++ others) number ≡ Some name
 in-front [] others number name is = cc

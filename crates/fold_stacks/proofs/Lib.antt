@@ -1,6 +1,12 @@
 pub mod EndedThreads
+pub mod FilesRead
 pub mod Kept
+pub mod LaterNames
+pub mod NamedFrames
+pub mod NamedStacks
 pub mod NamedThreads
 pub mod NamesByRecords
+pub mod PlaceSlots
 pub mod Recorded
+pub mod SymbolNumbers
 pub mod Weighing

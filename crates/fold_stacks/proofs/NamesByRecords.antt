@@ -23,7 +23,8 @@ use Rattle.fold_stacks.specs.Comms.{KeepsEnded, ended_with, is_thread}
 use Rattle.fold_stacks.specs.FoldingStates.{FoldingState, called_in, nothing_folded}
 use Rattle.fold_stacks.specs.Foldings.{IsChange, KeepsEndedIf, after_if}
 use Rattle.fold_stacks.specs.FrameTexts.{comm_text}
-use Rattle.fold_stacks.specs.KeptNumbers.{KeepsNumbers, name_number}
+use Rattle.fold_stacks.specs.Kept.{KeepsNumbers}
+use Rattle.fold_stacks.specs.KeptNumbers.{name_number}
 use Rattle.fold_stacks.specs.RecordChanges.{command_change, mapping_change, mapped_file, number_in, thread_name}
 use Rattle.fold_stacks.specs.ThreadNames.{ThreadNames, called_by, command_names, exit_names, fork_names, names_by, no_thread_names}
 use Rattle.fold_stacks.proofs.NamedThreads.{name-left, name-put, name-started}

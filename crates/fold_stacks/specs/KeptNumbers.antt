@@ -8,10 +8,7 @@ use Rattle.perf_processes.specs.declared.change.Change.{Change}
 use Rattle.perf_processes.specs.declared.change.Change.TheVariants.{Named, Executed}
 use Rattle.fold_stacks.specs.FoldingStates.{FoldingState}
 use Rattle.fold_stacks.specs.Foldings.{IsOfEvent}
-
--- A name that has a number keeps it.
-abbrev pub KeepsNumbers : List (List ℕ) → List (List ℕ) → Type 0
-KeepsNumbers old new = (number : ℕ) (name : List ℕ) → slice_get old number ≡ Some name → slice_get new number ≡ Some name
+use Rattle.fold_stacks.specs.Kept.{KeepsNumbers}
 
 -- the number of the name in a change
 abbrev pub name_number : Option Change → Option ℕ

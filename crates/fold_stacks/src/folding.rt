@@ -6,10 +6,11 @@ ghost use Rattle.perf_files.specs.RecordViews.{record_seen};
 ghost use Rattle.perf_files.specs.declared.record.RecordKind.TheVariants as kind;
 ghost use Rattle.fold_stacks.specs.CountedStacks.{lines_in};
 ghost use Rattle.fold_stacks.specs.FoldingStates.{nothing_folded};
-ghost use Rattle.fold_stacks.specs.Foldings.{IsChange, KeepsEndedIf, SaysChange, after_if};
-ghost use Rattle.fold_stacks.specs.KeptNumbers.{NamesThread, SaysName};
+ghost use Rattle.fold_stacks.specs.Foldings.{IsChange, KeepsEndedIf, after_if};
+ghost use Rattle.fold_stacks.specs.KeptNumbers.{NamesThread};
+ghost use Rattle.fold_stacks.specs.Recordings.{IsTaken};
 ghost use Rattle.fold_stacks.specs.Taken.{change_in, counted_if, counted_in, weight_in};
-ghost use Rattle.fold_stacks.specs.Weights.{IsWeight, SaysWeight, event_name};
+ghost use Rattle.fold_stacks.specs.Weights.{IsWeight, event_name};
 
 use crate::changes::change_of;
 use crate::comms::Comms;
@@ -153,14 +154,7 @@ impl<A: SampleArch> Folding<A> {
         files: &mut F,
         record: &Record<'_>,
     ) -> Result<Taken, FoldError>
-        ensures change { IfOk result (λ taken. SaysChange events.entry.events.now (record_seen record.now) (change_in taken)) }
-        ensures processes { IfOk result (λ taken. self.new.processes ≡ after_if (change_in taken) self.old.processes) }
-        ensures ended { IfOk result (λ taken. KeepsEndedIf (change_in taken) self.old self.new) }
-        ensures names { IfOk result (λ taken.
-            SaysName events.entry.events.now (record_seen record.now) self.old self.new (change_in taken)) }
-        ensures counts { IfOk result (λ taken. self.new.stacks.counts ≡ counted_if (counted_in taken) self.old.stacks.counts) }
-        ensures weight { IfOk result (λ taken.
-            SaysWeight options.now events.entry self.old (record_seen record.now) (weight_in taken)) }
+        ensures { IfOk result (λ taken. IsTaken options.now events.entry (record_seen record.now) taken self.old self.new) }
     {
         let index = event_of(events.events, record)?;
         let Some(event) = events.events.get(index) else {

@@ -1,9 +1,11 @@
 //! The stacks of the samples so far.
 
-ghost use Rattle.std.specs.Prelude.{◌≡◌, IfOk, map};
+ghost use Rattle.std.specs.Prelude.{◌≡◌, IfOk, OnOk, map};
 ghost use Rattle.folded_stacks.specs.LineViews.{line_seen};
 ghost use Rattle.folded_stacks.specs.Lines.{with_samples};
 ghost use Rattle.fold_stacks.specs.CountedStacks.{lines_in, no_stacks};
+ghost use Rattle.fold_stacks.specs.FrameNames.{KeepsLabels};
+ghost use Rattle.fold_stacks.specs.StackNames.{IsStackOf};
 
 use crate::files::SampledFiles;
 use crate::frames::UserFrame;
@@ -33,13 +35,13 @@ pub(crate) struct SampleStacks<A: SampleArch> {
     totals: FoldTotals,
 }
 
-/// A clause sees the names in stacks, and what the samples of each stack count for.
+/// A clause sees the names in stacks, with what they were looked up in, and what the samples of each stack count for.
 impl<A: SampleArch> Model for SampleStacks<A> {
     ghost use Rattle.fold_stacks.specs.CountedStacks.{CountedStacks};
 
     ghost Value = { CountedStacks };
 
-    ghost view = { λ stacks. record { names = stacks.labels; counts = stacks.counts } };
+    ghost view = { λ stacks. record { labels = stacks.labels; counts = stacks.counts } };
 }
 
 impl<A: SampleArch> SampleStacks<A> {
@@ -109,7 +111,10 @@ impl<A: SampleArch> SampleStacks<A> {
         sample: &Sample<'_>,
         weight: u64,
     ) -> Result<Vec<u32>, AllocError>
-        ensures { IfOk result (λ stack. self.new.counts ≡ with_samples stack.items weight self.old.counts) }
+        ensures counts { IfOk result (λ stack. self.new.counts ≡ with_samples stack.items weight self.old.counts) }
+        ensures names { IfOk result (λ stack.
+            IsStackOf options.now self.new.labels comm.now thread sample.now.call_chain stack.items) }
+        ensures kept { OnOk result (KeepsLabels self.old.labels self.new.labels) }
     {
         let process = self.labels.process_number(alloc, options, comm, thread)?;
         let (frames, end) = self.user_frames::<F>(alloc, files, processes, thread.pid, sample)?;
