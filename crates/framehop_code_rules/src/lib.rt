@@ -10,7 +10,8 @@ pub enum CodeRules {
     /// that stubs share has pushed its word once its `push` is executed. A first frame there has the caller that was called from.
     Known,
     /// As `Known`, and by ways out: a first frame in code that no table covers, or in a function of a Mach-O file, goes by what the code
-    /// from there up to a return does to the stack pointer, the frame pointer and the return address, if that has an unwind rule.
+    /// from there up to a return does to the stack pointer, the frame pointer and the return address, if that has an unwind rule. A later
+    /// frame goes so, from behind its call, where the tables of a Mach-O file say nothing and in code that no row of a PE file has.
     Ways,
 }
 
