@@ -33,8 +33,8 @@ NamesKernelFrames options state chain numbers = AllZip (NamesKernelFrame state o
 
 -- The parts of a stack have the names of a thread that is called so, of frames of user code, of those of the kernel in a call chain, and of how
 -- the walk ended.
-pub record NamesParts (options : FoldOptions) (state : LabelState) (comm : List ℕ) (thread : ThreadId) (frames : List UserFrame) (chain : List ℕ) (end : WalkEnd)
-    (parts : StackParts) : Type 0 where
+pub record NamesParts (options : FoldOptions) (state : LabelState) (comm : List ℕ) (thread : ThreadId) (frames : List UserFrame) (chain : List ℕ)
+    (end : WalkEnd) (parts : StackParts) : Type 0 where
   pub process : HasName state.names parts.process (process_text comm (shown_thread options thread))
   pub user : AllZip (NamesFrame state options.addresses) frames parts.user.now
   pub kernel : NamesKernelFrames options state chain parts.kernel.now

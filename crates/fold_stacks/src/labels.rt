@@ -129,7 +129,8 @@ fn number_at<F: SampledFiles>(
     files: &mut F,
     place: CodePlace,
 ) -> Result<u32, AllocError>
-    ensures number { IfOk result (λ number. NamesPlace names.new (known_file (files_in known.new.entries) place.file) place.address number) }
+    ensures number { IfOk result (λ number.
+        NamesPlace names.new (known_file (files_in known.new.entries) place.file) place.address number) }
     ensures names { KeepsNumbers names.old names.new }
     ensures files { KeepsFiles (files_in known.old.entries) (files_in known.new.entries) }
 {
