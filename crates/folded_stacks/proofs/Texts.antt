@@ -18,10 +18,10 @@ use Rattle.folded_stacks.proofs.Sums.{put}
 -- ---- what is counted of a stack, sample by sample
 
 -- a count after a sample more
-abbrev added : List ℕ → Line → Option ℕ → Option ℕ
+abbrev pub added : List ℕ → Line → Option ℕ → Option ℕ
 added stack more known = cond (bytes_eq stack more.stack) (Some (more_than known more.count)) known
 
-abbrev tally : List ℕ → List Line → Option ℕ → Option ℕ
+abbrev pub tally : List ℕ → List Line → Option ℕ → Option ℕ
 tally stack [] known = known
 tally stack (sample ∷ samples) known = tally stack samples (added stack sample known)
 
@@ -29,13 +29,13 @@ choose : (b : Bool) (x y z : Option ℕ) → (b ≡ true → x ≡ y) → cond b
 choose true x y z same = same refl
 choose false x y z same = refl
 
-one-more : (stack : List ℕ) (more : Line) (lines : List Line) → count_of stack (counted more lines) ≡ added stack more (count_of stack lines)
+pub one-more : (stack : List ℕ) (more : Line) (lines : List Line) → count_of stack (counted more lines) ≡ added stack more (count_of stack lines)
 one-more stack more lines =
     put stack (record { stack = more.stack; count = more_than (count_of more.stack lines) more.count }) lines
     ∙ choose (bytes_eq stack more.stack) (Some (more_than (count_of more.stack lines) more.count)) (Some (more_than (count_of stack lines) more.count)) (count_of stack lines)
     (λ is. ap (λ (u : List ℕ). Some (more_than (count_of u lines) more.count)) (sym ((bytes_eq-Decides stack more.stack).0 is)))
 
-is-tally : (stack : List ℕ) (samples lines : List Line) → count_of stack (all_counted samples lines) ≡ tally stack samples (count_of stack lines)
+pub is-tally : (stack : List ℕ) (samples lines : List Line) → count_of stack (all_counted samples lines) ≡ tally stack samples (count_of stack lines)
 is-tally stack [] lines = refl
 is-tally stack (sample ∷ samples) lines =
     is-tally stack samples (counted sample lines) ∙ ap (λ (o : Option ℕ). tally stack samples o) (one-more stack sample lines)
@@ -57,7 +57,7 @@ swap-by false false m n known = refl
 swap : (stack : List ℕ) (a b : Line) (known : Option ℕ) → added stack a (added stack b known) ≡ added stack b (added stack a known)
 swap stack a b known = swap-by (bytes_eq stack a.stack) (bytes_eq stack b.stack) a.count b.count known
 
-later : (stack : List ℕ) (xs : List Line) (a : Line) (known : Option ℕ) → tally stack xs (added stack a known) ≡ added stack a (tally stack xs known)
+pub later : (stack : List ℕ) (xs : List Line) (a : Line) (known : Option ℕ) → tally stack xs (added stack a known) ≡ added stack a (tally stack xs known)
 later stack [] a known = refl
 later stack (x ∷ xs) a known =
     ap (λ (o : Option ℕ). tally stack xs o) (swap stack x a known) ∙ later stack xs a (added stack x known)
@@ -67,7 +67,7 @@ later stack (x ∷ xs) a known =
 together : (d c w k : ℕ) → min (d + min (c + w) k) k ≡ min (min (d + c) k + w) k
 together d c w k = omega arith
 
-merged-by : (p : Bool) (c w : ℕ) (known : Option ℕ)
+pub merged-by : (p : Bool) (c w : ℕ) (known : Option ℕ)
     → cond p (Some (more_than known (more_than (Some c) w))) known
     ≡ cond p (Some (more_than (cond p (Some (more_than known c)) known) w)) (cond p (Some (more_than known c)) known)
 merged-by true c w None = refl
@@ -119,7 +119,7 @@ mutual-by x y xs ys Equal is up up' alike rest =
     (alike t ∙ ap (λ (l : Line). cond (bytes_eq t l.stack) (Some l.count) (count_of t ys)) (sym head)) in
     ap (λ (l : Line). l ∷ xs) head ∙ ap (λ (ls : List Line). y ∷ ls) (rest others)
 
-same : (xs ys : List Line) → IsStrictlySortedBy (slice_cmp nat_cmp) (stacks xs) → IsStrictlySortedBy (slice_cmp nat_cmp) (stacks ys)
+pub same : (xs ys : List Line) → IsStrictlySortedBy (slice_cmp nat_cmp) (stacks xs) → IsStrictlySortedBy (slice_cmp nat_cmp) (stacks ys)
     → ((t : List ℕ) → count_of t xs ≡ count_of t ys) → xs ≡ ys
 unfolding IsStrictlySortedBy
 same [] [] up up' alike = refl

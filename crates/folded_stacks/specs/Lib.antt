@@ -3,3 +3,4 @@ pub mod FrameNames
 pub mod LineViews
 pub mod Lines
 pub mod Names
+pub mod StackLists

@@ -7,6 +7,7 @@ mod frame_names;
 mod laws;
 mod lines;
 mod names;
+mod stack_slots;
 
 pub use counts::{StackCounts, lines_of};
 pub use frame_names::FrameNames;
