@@ -5,6 +5,8 @@ ghost use Rattle.std.specs.Option.{option_copied};
 ghost use Rattle.kernel_symbols.specs.Lines.{address_in, before_byte, digit_of, first_line, is_code, name_behind, number_with, symbol_in};
 ghost use Rattle.kernel_symbols.specs.LineViews.{address_seen, line_seen, symbol_seen};
 
+use memchr::memchr;
+
 /// A symbol of a kernel.
 #[derive(Clone, Copy, Debug)]
 pub(crate) struct KernelSymbol<'a> {
@@ -34,7 +36,7 @@ struct Address<'a> {
 fn first_of(bytes: &[u8], wanted: u8) -> Option<usize>
     ensures { result ≡ position (λ byte. byte == wanted) bytes.now }
 {
-    bytes.iter().position(|byte| *byte == wanted)
+    memchr(wanted, bytes)
 }
 
 /// The first line of a list, and what follows it.
@@ -58,13 +60,13 @@ fn digit_of(byte: u8) -> Option<u64>
     ensures digit { result ≡ digit_of byte }
     ensures small { IfSome result (λ digit. digit < 16) }
 {
-    if b'0' <= byte && byte <= b'9' {
-        Some(u64::from(byte - b'0'))
-    } else if b'a' <= byte && byte <= b'f' {
-        Some(u64::from(byte - b'a') + 10)
-    } else {
-        None
+    let is_decimal = b'0' <= byte && byte <= b'9';
+    let is_letter = b'a' <= byte && byte <= b'f';
+    if !(is_decimal | is_letter) {
+        return None;
     }
+    let zero = if is_decimal { b'0' } else { b'a' - 10 };
+    Some(u64::from(byte - zero))
 }
 
 // A number with a digit more, if it is one of 64 bits.
