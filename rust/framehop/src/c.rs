@@ -5,7 +5,7 @@ use crate::cache::CacheStats;
 use crate::code_address::FrameAddress;
 use crate::layout::{Frame, Handle, MappedFile, Sample};
 use crate::modules::{Change, Follower, Modules};
-use crate::status::{Step, done};
+use crate::status::done;
 use std::alloc::{Layout, alloc, dealloc, realloc};
 use std::marker::PhantomData;
 use std::ops::Deref;
@@ -134,21 +134,20 @@ impl<R: Registers> Session<R> {
         self.last.1
     }
 
-    /// Makes a step from a frame at an address by the modules of a list, over the words of a sample.
-    #[inline]
+    /// Makes a step from a frame at an address by the modules of a list, over the words of a sample, and returns its status.
+    #[inline(always)]
     pub(crate) fn step<D: Deref<Target = [u8]>>(
         &mut self,
         modules: &Modules<D, R>,
         address: FrameAddress,
         frame: &mut Frame<R>,
         sample: &Sample,
-    ) -> Step {
+    ) -> u32 {
         (frame.unwinder, frame.cache) = (self.follow(modules), self.cache);
         frame.set_address(address);
         // SAFETY: the unwinder has the modules of the list and no others. They are borrowed with it, each behind an `Arc` and never written,
         // so that their bytes are where they were when they were lent. All else is borrowed too.
-        let status = unsafe { R::UNWIND_FRAME(&mut self.handle, frame, sample) };
-        Step::of(status, frame.return_address, frame.word_address)
+        unsafe { R::UNWIND_FRAME(&mut self.handle, frame, sample) }
     }
 }
 

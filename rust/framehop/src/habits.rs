@@ -5,12 +5,18 @@
 
 use crate::code_address::FrameAddress;
 use crate::layout::Word;
+use crate::modules::VERSIONS_APART;
 
 /// As many as a cache has.
 const SLOTS: usize = 509;
 
 /// As many words as a rule reads.
 pub(crate) const READS: usize = 2;
+
+// What a habit's kind says beside the version.
+const READY: u64 = 1;
+const OF_RETURN: u64 = 2;
+const _: () = assert!(READY | OF_RETURN == VERSIONS_APART - 1);
 
 /// The registers that lead to words of the stack.
 #[derive(Clone, Copy)]
@@ -40,33 +46,43 @@ impl Pointing for [u64; 4] {
     }
 }
 
-/// What is known of where the words are that such steps read.
-#[derive(Clone, Copy, PartialEq, Eq)]
-enum Knowledge {
-    /// Nothing.
-    Nothing,
-    /// How far they were from the stack pointer in one step. They are there again if the frame pointer is as far from it.
-    Once,
-    /// How far they are from the stack pointer or the frame pointer: several steps told which.
-    Told,
-}
-
 /// What the last step of a slot was, and what was learned of such steps.
 #[derive(Clone, Copy)]
 pub(crate) struct Habit {
     address: u64,
-    /// Twice the version, and one more for a return address.
+    /// The version, and `OF_RETURN` more for a return address, and `READY` more if such steps find their rule, and their words are known.
     kind: u64,
     /// How far the frame pointer was from the stack pointer.
     apart: u64,
-    /// How far words are from the registers that lead to them.
+    /// How far words are from the registers that lead to them, and 0 for those that there aren't.
     distances: [u64; READS],
-    are_by_fp: [bool; READS],
+    /// -1 for words that the frame pointer leads to, else 0.
+    by_fp: [i8; READS],
     /// How many words such steps read.
     count: u8,
-    known: Knowledge,
+    /// -1 if the words are known only where the frame pointer is as far from the stack pointer as it was, 0 if several steps told which
+    /// register leads to each.
+    by_apart: i8,
     /// Whether the next such step finds its rule.
     finds: bool,
+    /// Whether it is known where the words are.
+    is_known: bool,
+}
+
+/// A step that is looked for among the habits.
+#[derive(Clone, Copy)]
+pub(crate) struct Sought {
+    address: u64,
+    kind: u64,
+}
+
+impl Sought {
+    /// A step from a frame by modules of a version.
+    #[inline(always)]
+    pub(crate) fn of(version: u64, frame: FrameAddress) -> Sought {
+        let kind = version.wrapping_add(OF_RETURN * u64::from(frame.is_return_address()));
+        Sought { address: frame.address_for_lookup(), kind }
+    }
 }
 
 /// The habits of a cache.
@@ -74,59 +90,42 @@ pub(crate) struct Habits(Box<[Habit; SLOTS]>);
 
 impl Habits {
     pub(crate) fn new() -> Self {
-        Habits(Box::new([Habit::new(0, 0); SLOTS]))
+        Habits(Box::new([Habit::of(Sought { address: 0, kind: 0 }); SLOTS]))
     }
 
-    /// What is known of a step by modules of a version.
+    /// The slot of a step.
     #[inline(always)]
-    pub(crate) fn of(&mut self, version: u64, frame: FrameAddress) -> &mut Habit {
-        let address = frame.address_for_lookup();
-        let kind = version << 1 | u64::from(frame.is_return_address());
-        let habit = &mut self.0[(address % SLOTS as u64) as usize];
-        if habit.address != address || habit.kind != kind {
-            *habit = Habit::new(address, kind);
-        }
-        habit
+    pub(crate) fn slot(&mut self, sought: Sought) -> &mut Habit {
+        &mut self.0[(sought.address % SLOTS as u64) as usize]
     }
 }
 
-/// The addresses of the words that a step will read.
+/// The addresses of the words that a step will read. Those that there aren't are the stack pointer.
 #[derive(Clone, Copy)]
 pub(crate) struct Foreseen {
-    count: usize,
-    addresses: [u64; READS],
-}
-
-impl Foreseen {
-    #[inline(always)]
-    pub(crate) fn addresses(&self) -> &[u64] {
-        &self.addresses[..self.count]
-    }
-
-    /// The address of the first word, if there is one.
-    #[inline(always)]
-    pub(crate) fn start(&self) -> u64 {
-        self.addresses[0]
-    }
-
-    /// Whether each word is the next after the one before.
-    #[inline(always)]
-    pub(crate) fn are_side_by_side(&self) -> bool {
-        self.count < 2 || self.addresses[1] == self.addresses[0].wrapping_add(8)
-    }
+    pub(crate) count: u8,
+    pub(crate) addresses: [u64; READS],
 }
 
 impl Habit {
-    fn new(address: u64, kind: u64) -> Habit {
+    fn of(sought: Sought) -> Habit {
         Habit {
-            address,
-            kind,
+            address: sought.address,
+            kind: sought.kind,
             apart: 0,
             distances: [0; READS],
-            are_by_fp: [false; READS],
+            by_fp: [0; READS],
             count: 0,
-            known: Knowledge::Nothing,
+            by_apart: 0,
             finds: false,
+            is_known: false,
+        }
+    }
+
+    /// Makes the habit that of a step, if it is another's.
+    pub(crate) fn turn_to(&mut self, sought: Sought) {
+        if self.address != sought.address || self.kind & !READY != sought.kind {
+            *self = Habit::of(sought);
         }
     }
 
@@ -138,24 +137,26 @@ impl Habit {
     /// Says whether the next such step does.
     pub(crate) fn set_finds(&mut self, finds: bool) {
         self.finds = finds;
+        self.set_ready();
     }
 
-    /// The words that the step will read, if it surely finds its rule, and they are known and in the part of the stack that is in use.
+    fn set_ready(&mut self) {
+        self.kind = self.kind & !READY | if self.finds && self.is_known { READY } else { 0 };
+    }
+
+    /// The words that a step will read, if it surely finds its rule, and they are known and in the part of the stack that is in use.
     #[inline(always)]
-    pub(crate) fn foreseen(&self, pointers: Pointers) -> Option<Foreseen> {
+    pub(crate) fn foreseen(&self, sought: Sought, pointers: Pointers) -> Option<Foreseen> {
         let Pointers { sp, fp } = pointers;
-        let is_known = match self.known {
-            Knowledge::Nothing => false,
-            Knowledge::Once => fp.wrapping_sub(sp) == self.apart,
-            Knowledge::Told => true,
-        };
-        if !(self.finds && is_known) {
+        let apart = fp.wrapping_sub(sp);
+        let is_other = (self.address ^ sought.address) | (self.kind ^ sought.kind.wrapping_add(READY));
+        if is_other | ((self.apart ^ apart) & mask(self.by_apart)) != 0 {
             return None;
         }
-        let from = |is_by_fp| if is_by_fp { fp } else { sp };
-        let addresses = std::array::from_fn(|it| from(self.are_by_fp[it]).wrapping_add(self.distances[it]));
+        let at = |it: usize| sp.wrapping_add(apart & mask(self.by_fp[it])).wrapping_add(self.distances[it]);
+        let addresses = [at(0), if self.count > 1 { at(1) } else { sp }];
         let is_in_use = addresses.iter().all(|it| *it >= sp);
-        is_in_use.then_some(Foreseen { count: usize::from(self.count).min(READS), addresses })
+        is_in_use.then_some(Foreseen { count: self.count, addresses })
     }
 
     /// Learns from a step that asked for these words.
@@ -166,26 +167,28 @@ impl Habit {
         let before = *self;
         self.apart = pointers.fp.wrapping_sub(pointers.sp);
         self.count = asked.len() as u8;
-        self.known = Knowledge::Once;
+        self.is_known = true;
+        self.by_apart = -1;
         self.distances = [0; READS];
-        self.are_by_fp = [false; READS];
+        self.by_fp = [0; READS];
         for (distance, word) in self.distances.iter_mut().zip(asked) {
             *distance = word.address().wrapping_sub(pointers.sp);
         }
-        if before.known == Knowledge::Once && before.count == self.count {
+        if before.is_known && before.by_apart != 0 && before.count == self.count {
             self.join(&before);
         }
+        self.set_ready();
     }
 
     // Learns which registers lead to the words, if each was at one distance from one of them in two steps, and at several from the other.
     fn join(&mut self, before: &Habit) {
         let mut told = *self;
-        told.known = Knowledge::Told;
+        told.by_apart = 0;
         for it in 0..usize::from(self.count) {
             let from_fp = |habit: &Habit| habit.distances[it].wrapping_sub(habit.apart);
             match (self.distances[it] == before.distances[it], from_fp(self) == from_fp(before)) {
                 (true, false) => {}
-                (false, true) => (told.distances[it], told.are_by_fp[it]) = (from_fp(self), true),
+                (false, true) => (told.distances[it], told.by_fp[it]) = (from_fp(self), -1),
                 _ => return,
             }
         }
@@ -194,6 +197,13 @@ impl Habit {
 
     /// Forgets which words are read.
     pub(crate) fn forget(&mut self) {
-        self.known = Knowledge::Nothing;
+        self.is_known = false;
+        self.set_ready();
     }
+}
+
+// All bits or none.
+#[inline(always)]
+fn mask(number: i8) -> u64 {
+    i64::from(number) as u64
 }

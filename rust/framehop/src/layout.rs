@@ -148,8 +148,8 @@ pub(crate) struct Frame<R> {
     pub(crate) word_address: u64,
 }
 
+/// The place of a first frame. That of any other is the next number.
 const AT_INSTRUCTION: u64 = 1;
-const AT_RETURN: u64 = 2;
 
 impl<R> Frame<R> {
     /// Registers of a frame whose place isn't known.
@@ -160,7 +160,7 @@ impl<R> Frame<R> {
     /// Puts the frame at an address.
     #[inline(always)]
     pub(crate) fn set_address(&mut self, address: FrameAddress) {
-        self.place = if address.is_return_address() { AT_RETURN } else { AT_INSTRUCTION };
+        self.place = AT_INSTRUCTION + u64::from(address.is_return_address());
         self.address = address.address();
     }
 }

@@ -4,10 +4,10 @@ use crate::c::{Registers, Session};
 use crate::cache::{AllocationPolicy, CacheStats};
 use crate::code_address::FrameAddress;
 use crate::error::Error;
-use crate::habits::{Habit, Habits, Pointing, READS};
+use crate::habits::{Foreseen, Habits, Pointing, READS, Sought};
 use crate::layout::{CopiedWord, Frame, Sample, Word};
 use crate::modules::Modules;
-use crate::status::Step;
+use crate::status::Answer;
 use std::marker::PhantomData;
 use std::ops::Deref;
 
@@ -30,23 +30,19 @@ struct KnownWords<P> {
 }
 
 impl<P: AllocationPolicy> KnownWords<P> {
-    /// Notes the words at addresses, or that the one after these can't be read.
-    #[cold]
-    fn note(&mut self, addresses: &[u64], copied: &[CopiedWord], has_unreadable: bool) {
+    /// Notes words, and nothing else.
+    fn note(&mut self, words: &[Word]) {
         self.words.clear();
-        self.words.extend(addresses.iter().zip(copied).map(|(at, word)| Word::of(*at, Ok(word.value()))));
-        if has_unreadable {
-            self.words.push(Word::of(addresses[copied.len()], Err(())));
-        }
+        self.words.extend_from_slice(words);
     }
 
-    /// Asks for a word, unless there is no room for it.
-    fn ask<F: FnMut(u64) -> Result<u64, ()>>(&mut self, address: u64, read_stack: &mut F) -> Result<(), Error> {
-        if self.words.len() >= ROOM && !P::MAY_ALLOCATE {
-            return Err(Error::CouldNotReadStack(address));
+    /// Asks for a word, unless there is no room for it. Returns whether there was.
+    fn ask<F: FnMut(u64) -> Result<u64, ()>>(&mut self, address: u64, read_stack: &mut F) -> bool {
+        let has_room = self.words.len() < ROOM || P::MAY_ALLOCATE;
+        if has_room {
+            self.words.push(Word::of(address, read_stack(address)));
         }
-        self.words.push(Word::of(address, read_stack(address)));
-        Ok(())
+        has_room
     }
 }
 
@@ -65,7 +61,8 @@ impl<R: Registers + Pointing, P: AllocationPolicy> Mirror<R, P> {
         self.session.follow(modules);
     }
 
-    #[inline]
+    /// Makes a step from a frame at an address by the modules of a list.
+    #[inline(always)]
     pub(crate) fn step<D: Deref<Target = [u8]>, F: FnMut(u64) -> Result<u64, ()>>(
         &mut self,
         modules: &Modules<D, R>,
@@ -73,34 +70,117 @@ impl<R: Registers + Pointing, P: AllocationPolicy> Mirror<R, P> {
         frame: &mut Frame<R>,
         read_stack: &mut F,
     ) -> Result<Option<u64>, Error> {
-        let Mirror { session, habits, known, stats } = self;
-        let habit = habits.of(modules.version(), address);
-        let Some(foreseen) = habit.foreseen(frame.registers.pointers()) else {
-            return Asking { session, modules, address, known }.from_none(habit, stats, frame, read_stack);
+        let sought = Sought::of(modules.version(), address);
+        let foreseen = self.habits.slot(sought).foreseen(sought, frame.registers.pointers());
+        let Some(Foreseen { count, addresses: [first, second] }) = foreseen else {
+            return self.step_anew(modules, address, frame, read_stack).result();
         };
-        stats.hit_count += 1;
-        let addresses = foreseen.addresses();
+        self.stats.hit_count += 1;
         let mut copied = [CopiedWord::of(0); READS];
-        for (count, at) in addresses.iter().enumerate() {
-            let Ok(word) = read_stack(*at) else {
-                known.note(addresses, &copied[..count], true);
-                return Asking { session, modules, address, known }.over_noted(habit, frame, read_stack);
-            };
-            copied[count] = CopiedWord::of(word);
-        }
-        let copied = &copied[..addresses.len()];
         let beside;
-        let sample = if foreseen.are_side_by_side() {
-            Sample::of_copied(foreseen.start(), copied, &[])
+        let sample = if count == 0 {
+            Sample::of_copied(first, &[], &[])
         } else {
-            beside = [Word::of(addresses[0], Ok(copied[0].value()))];
-            Sample::of_copied(addresses[1], &copied[1..], &beside)
+            let Ok(word) = read_stack(first) else {
+                return self.step_over(&[Word::of(first, Err(()))], modules, address, frame, read_stack).result();
+            };
+            copied[0] = CopiedWord::of(word);
+            if count == 1 {
+                Sample::of_copied(first, &copied[..1], &[])
+            } else {
+                let Ok(other) = read_stack(second) else {
+                    let words = [Word::of(first, Ok(word)), Word::of(second, Err(()))];
+                    return self.step_over(&words, modules, address, frame, read_stack).result();
+                };
+                copied[1] = CopiedWord::of(other);
+                if second == first.wrapping_add(8) {
+                    Sample::of_copied(first, &copied, &[])
+                } else {
+                    beside = [Word::of(first, Ok(word))];
+                    Sample::of_copied(second, &copied[1..], &beside)
+                }
+            }
         };
-        if let Step::Answered(answer) = session.step(modules, address, frame, &sample) {
-            return answer;
+        let status = self.session.step(modules, address, frame, &sample);
+        if status != 0 {
+            return self.step_after(status, &copied, modules, address, frame, read_stack).result();
         }
-        known.note(addresses, copied, false);
-        Asking { session, modules, address, known }.over_noted(habit, frame, read_stack)
+        Ok(Some(frame.return_address))
+    }
+
+    /// Makes a step of which nothing is foreseen. How often it found its rule is what the library counted.
+    #[cold]
+    #[inline(never)]
+    fn step_anew<D: Deref<Target = [u8]>, F: FnMut(u64) -> Result<u64, ()>>(
+        &mut self,
+        modules: &Modules<D, R>,
+        address: FrameAddress,
+        frame: &mut Frame<R>,
+        read_stack: &mut F,
+    ) -> Answer {
+        let sought = Sought::of(modules.version(), address);
+        let Mirror { session, habits, known, stats } = self;
+        let habit = habits.slot(sought);
+        habit.turn_to(sought);
+        let pointers = frame.registers.pointers();
+        session.follow(modules);
+        let before = if habit.finds() { None } else { Some(session.stats()) };
+        known.words.clear();
+        let answer = Asking { session, modules, address, known }.step(frame, read_stack).1;
+        if let Some(before) = before {
+            let after = session.stats();
+            let hits = after.hit_count - before.hit_count;
+            let again = known.words.len() as u64;
+            // A step that found no rule, and kept none, finds none again: for the same reason.
+            stats.add_look_up(&before, &after, hits > again);
+            habit.set_finds(hits > again || again > 0 && hits == again);
+        } else {
+            stats.hit_count += 1;
+        }
+        habit.learn(pointers, &known.words);
+        answer
+    }
+
+    /// Makes a step over words that were foreseen, after a status without a caller.
+    #[cold]
+    #[inline(never)]
+    fn step_after<D: Deref<Target = [u8]>, F: FnMut(u64) -> Result<u64, ()>>(
+        &mut self,
+        status: u32,
+        copied: &[CopiedWord; READS],
+        modules: &Modules<D, R>,
+        address: FrameAddress,
+        frame: &mut Frame<R>,
+        read_stack: &mut F,
+    ) -> Answer {
+        let answer = Answer::of(status, frame);
+        let sought = Sought::of(modules.version(), address);
+        let foreseen = self.habits.slot(sought).foreseen(sought, frame.registers.pointers());
+        let (Some(_), Some(Foreseen { count, addresses })) = (answer.needed(), foreseen) else {
+            return answer;
+        };
+        let words = [0, 1].map(|it| Word::of(addresses[it], Ok(copied[it].value())));
+        self.step_over(&words[..usize::from(count)], modules, address, frame, read_stack)
+    }
+
+    /// Makes a step over words, and over more if it asks for any: then nothing was foreseen rightly.
+    #[cold]
+    #[inline(never)]
+    fn step_over<D: Deref<Target = [u8]>, F: FnMut(u64) -> Result<u64, ()>>(
+        &mut self,
+        words: &[Word],
+        modules: &Modules<D, R>,
+        address: FrameAddress,
+        frame: &mut Frame<R>,
+        read_stack: &mut F,
+    ) -> Answer {
+        let Mirror { session, habits, known, .. } = self;
+        known.note(words);
+        let (asked_for_more, answer) = Asking { session, modules, address, known }.step(frame, read_stack);
+        if asked_for_more {
+            habits.slot(Sought::of(modules.version(), address)).forget();
+        }
+        answer
     }
 }
 
@@ -118,67 +198,19 @@ struct Asking<'a, D, R, P> {
     known: &'a mut KnownWords<P>,
 }
 
-impl<D: Deref<Target = [u8]>, R: Registers + Pointing, P: AllocationPolicy> Asking<'_, D, R, P> {
-    fn step(&mut self, frame: &mut Frame<R>) -> Step {
-        self.session.step(self.modules, self.address, frame, &Sample::of_known(&self.known.words))
-    }
-
-    /// What the step gives in the end, after this.
-    fn end<F: FnMut(u64) -> Result<u64, ()>>(
-        &mut self,
-        mut step: Step,
-        frame: &mut Frame<R>,
-        read_stack: &mut F,
-    ) -> Result<Option<u64>, Error> {
-        while let Step::NeedsWord(at) = step {
-            self.known.ask(at, read_stack)?;
-            step = self.step(frame);
+impl<D: Deref<Target = [u8]>, R: Registers, P: AllocationPolicy> Asking<'_, D, R, P> {
+    /// Makes the step over the words that are known. Returns whether it asked for others too, and what it gives in the end.
+    fn step<F: FnMut(u64) -> Result<u64, ()>>(&mut self, frame: &mut Frame<R>, read_stack: &mut F) -> (bool, Answer) {
+        let count = self.known.words.len();
+        loop {
+            let sample = Sample::of_known(&self.known.words);
+            let answer = Answer::of(self.session.step(self.modules, self.address, frame, &sample), frame);
+            let Some(at) = answer.needed() else {
+                return (self.known.words.len() > count, answer);
+            };
+            if !self.known.ask(at, read_stack) {
+                return (true, Answer::unread(at));
+            }
         }
-        let Step::Answered(answer) = step else { unreachable!() };
-        answer
-    }
-
-    /// Makes the step from the start. How often it found its rule is what the library counted.
-    #[cold]
-    fn from_none<F: FnMut(u64) -> Result<u64, ()>>(
-        mut self,
-        habit: &mut Habit,
-        stats: &mut CacheStats,
-        frame: &mut Frame<R>,
-        read_stack: &mut F,
-    ) -> Result<Option<u64>, Error> {
-        let pointers = frame.registers.pointers();
-        self.session.follow(self.modules);
-        let before = if habit.finds() { None } else { Some(self.session.stats()) };
-        self.known.words.clear();
-        let first = self.step(frame);
-        let answer = self.end(first, frame, read_stack);
-        if let Some(before) = before {
-            let after = self.session.stats();
-            let hits = after.hit_count - before.hit_count;
-            let again = self.known.words.len() as u64;
-            // A step that found no rule, and kept none, finds none again: for the same reason.
-            stats.add_look_up(&before, &after, hits > again);
-            habit.set_finds(hits > again || again > 0 && hits == again);
-        } else {
-            stats.hit_count += 1;
-        }
-        habit.learn(pointers, &self.known.words);
-        answer
-    }
-
-    /// Makes the step over the words that are noted, and with each of which nothing was foreseen.
-    #[cold]
-    fn over_noted<F: FnMut(u64) -> Result<u64, ()>>(
-        mut self,
-        habit: &mut Habit,
-        frame: &mut Frame<R>,
-        read_stack: &mut F,
-    ) -> Result<Option<u64>, Error> {
-        let first = self.step(frame);
-        if let Step::NeedsWord(_) = first {
-            habit.forget();
-        }
-        self.end(first, frame, read_stack)
     }
 }

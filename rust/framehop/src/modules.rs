@@ -21,15 +21,18 @@ pub(crate) struct Version<R> {
     spare: Mutex<Vec<Session<R>>>,
 }
 
+/// Numbers of versions are multiples of this, which leaves room for what a habit notes beside one.
+pub(crate) const VERSIONS_APART: u64 = 4;
+
 /// How many sessions are kept for new caches.
 const MOST_SPARE: usize = 8;
 
 impl<R> Version<R> {
     // With a number that no other version has.
     fn new(spare: Vec<Session<R>>) -> Arc<Self> {
-        static NEXT: AtomicU64 = AtomicU64::new(1);
+        static NEXT: AtomicU64 = AtomicU64::new(VERSIONS_APART);
 
-        Arc::new(Version { number: NEXT.fetch_add(1, Ordering::Relaxed), spare: Mutex::new(spare) })
+        Arc::new(Version { number: NEXT.fetch_add(VERSIONS_APART, Ordering::Relaxed), spare: Mutex::new(spare) })
     }
 
     fn spare(&self) -> MutexGuard<'_, Vec<Session<R>>> {

@@ -1,42 +1,55 @@
 //! The statuses of `framehop.h`.
 
 use crate::error::Error;
+use crate::layout::Frame;
 use std::alloc::{Layout, handle_alloc_error};
 
-/// What a step gives.
-pub(crate) enum Step {
-    Answered(Result<Option<u64>, Error>),
-    /// The word at this address has to be known first. Nothing was done.
-    NeedsWord(u64),
+/// What a step gives: its status, with the return address or the address of a word.
+#[derive(Clone, Copy)]
+pub(crate) struct Answer {
+    status: u64,
+    number: u64,
 }
 
-impl Step {
-    /// What a status says, with the return address or the address of a word that came with it.
-    #[inline(always)]
-    pub(crate) fn of(status: u32, caller: u64, word_address: u64) -> Step {
-        if status == 0 {
-            return Step::Answered(Ok(Some(caller)));
-        }
-        Step::without_caller(status, word_address)
+const OK: u32 = 0;
+const NEED_WORD: u32 = 2;
+const COULD_NOT_READ_STACK: u32 = 16;
+
+impl Answer {
+    /// That of a step that can't have the word at an address.
+    pub(crate) fn unread(address: u64) -> Answer {
+        Answer { status: COULD_NOT_READ_STACK.into(), number: address }
     }
 
-    fn without_caller(status: u32, word_address: u64) -> Step {
-        Step::Answered(match status {
+    /// What a status says of a frame that the step was made from.
+    pub(crate) fn of<R>(status: u32, frame: &Frame<R>) -> Answer {
+        let number = if status == OK { frame.return_address } else { frame.word_address };
+        Answer { status: status.into(), number }
+    }
+
+    /// The address of the word that has to be known first: then nothing was done.
+    pub(crate) fn needed(self) -> Option<u64> {
+        (self.status == NEED_WORD.into()).then_some(self.number)
+    }
+
+    /// What the step gives to its caller.
+    pub(crate) fn result(self) -> Result<Option<u64>, Error> {
+        match self.status as u32 {
+            OK => Ok(Some(self.number)),
             1 => Ok(None),
-            2 => return Step::NeedsWord(word_address),
-            16 => Err(Error::CouldNotReadStack(word_address)),
+            COULD_NOT_READ_STACK => Err(Error::CouldNotReadStack(self.number)),
             17 => Err(Error::FramepointerUnwindingMovedBackwards),
             18 => Err(Error::DidNotAdvance),
             19 => Err(Error::IntegerOverflow),
             20 => Err(Error::ReturnAddressIsNull),
             other => fail(other),
-        })
+        }
     }
 }
 
 /// Goes on if a call was done.
 pub(crate) fn done(status: u32) {
-    if status != 0 {
+    if status != OK {
         fail(status);
     }
 }

@@ -53,9 +53,9 @@ pub trait Unwinder: Clone {
 /// Where a walk is.
 enum Place {
     /// Before its first frame.
-    Starts(u64),
+    Starts,
     /// At a frame.
-    At(FrameAddress),
+    At,
     /// After its last frame.
     Over,
 }
@@ -64,6 +64,8 @@ enum Place {
 pub struct UnwindIterator<'u, 'c, 'r, U: Unwinder, F: FnMut(u64) -> Result<u64, ()>> {
     unwinder: &'u U,
     place: Place,
+    // The frame that the walk is at, or its first one.
+    frame: FrameAddress,
     regs: U::UnwindRegs,
     cache: &'c mut U::Cache,
     read_stack: &'r mut F,
@@ -72,7 +74,8 @@ pub struct UnwindIterator<'u, 'c, 'r, U: Unwinder, F: FnMut(u64) -> Result<u64, 
 impl<'u, 'c, 'r, U: Unwinder, F: FnMut(u64) -> Result<u64, ()>> UnwindIterator<'u, 'c, 'r, U, F> {
     /// A walk from these registers. `Unwinder::iter_frames` is the shorter call.
     pub fn new(unwinder: &'u U, pc: u64, regs: U::UnwindRegs, cache: &'c mut U::Cache, read_stack: &'r mut F) -> Self {
-        UnwindIterator { unwinder, place: Place::Starts(pc), regs, cache, read_stack }
+        let frame = FrameAddress::from_instruction_pointer(pc);
+        UnwindIterator { unwinder, place: Place::Starts, frame, regs, cache, read_stack }
     }
 }
 
@@ -81,18 +84,16 @@ impl<U: Unwinder, F: FnMut(u64) -> Result<u64, ()>> UnwindIterator<'_, '_, '_, U
     /// where it was.
     #[allow(clippy::should_implement_trait)]
     pub fn next(&mut self) -> Result<Option<FrameAddress>, Error> {
-        let next = match self.place {
-            Place::Starts(pc) => FrameAddress::from_instruction_pointer(pc),
-            Place::At(address) => match self.unwinder.unwind_frame(address, &mut self.regs, self.cache, self.read_stack)? {
-                Some(caller) => FrameAddress::from_return_address(caller).ok_or(Error::ReturnAddressIsNull)?,
-                None => {
-                    self.place = Place::Over;
-                    return Ok(None);
-                }
-            },
-            Place::Over => return Ok(None),
-        };
-        self.place = Place::At(next);
-        Ok(Some(next))
+        if let Place::At = self.place {
+            let Some(caller) = self.unwinder.unwind_frame(self.frame, &mut self.regs, self.cache, self.read_stack)? else {
+                self.place = Place::Over;
+                return Ok(None);
+            };
+            self.frame = FrameAddress::from_return_address(caller).ok_or(Error::ReturnAddressIsNull)?;
+        } else if let Place::Over = self.place {
+            return Ok(None);
+        }
+        self.place = Place::At;
+        Ok(Some(self.frame))
     }
 }
