@@ -2,7 +2,7 @@
 #![allow(unsafe_code)]
 
 use crate::cache::CacheStats;
-use crate::code_address::FrameAddress;
+use crate::habits::SLOTS;
 use crate::layout::{Frame, Handle, MappedFile, Sample};
 use crate::modules::{Change, Follower, Modules};
 use crate::status::done;
@@ -72,12 +72,14 @@ impl<R> Drop for Session<R> {
 impl<R: Registers> Session<R> {
     pub(crate) const NONE: Self = Session { handle: Handle::NONE, cache: 0, followers: Vec::new(), last: (0, 0), registers: PhantomData };
 
-    /// Gives what is loaded of the list that was followed last to that list, if it is still there, and is left as `NONE`.
+    /// Gives what is loaded of the list that was followed last to that list, if it is still there, with a new cache, and is left as `NONE`.
     pub(crate) fn retire(&mut self) {
         let mut session = mem::replace(self, Session::NONE);
         session.followers.retain(|it| it.version == session.last.0 || framehop_remove_unwinder(&mut session.handle, it.unwinder) != 0);
-        if let Some(version) = session.followers.first().and_then(|it| it.lasting.upgrade()) {
-            done(framehop_remove_cache(&mut session.handle, session.cache));
+        if let Some(version) = session.followers.first().and_then(|it| it.lasting.upgrade())
+            && framehop_remove_cache(&mut session.handle, session.cache) == 0
+            && framehop_add_cache(&mut session.handle, SLOTS, &mut session.cache) == 0
+        {
             version.keep(session);
         }
     }
@@ -116,11 +118,12 @@ impl<R: Registers> Session<R> {
     fn turn_to<D: Deref<Target = [u8]>>(&mut self, modules: &Modules<D, R>) {
         if self.handle.is_none() {
             assert_eq!(framehop_version(), 0x000100, "libframehop.a is of another version than this crate");
-            match modules.spare_session() {
-                Some(session) => *self = session,
-                None => done(framehop_session_new(&mut self.handle, R::ARCHITECTURE)),
+            if let Some(session) = modules.spare_session() {
+                *self = session;
+            } else {
+                done(framehop_session_new(&mut self.handle, R::ARCHITECTURE));
+                done(framehop_add_cache(&mut self.handle, SLOTS, &mut self.cache));
             }
-            done(framehop_add_cache(&mut self.handle, 509, &mut self.cache));
         }
         let there = self.followers.iter().find(|it| it.version == modules.version()).map(|it| it.unwinder);
         self.last = (modules.version(), there.unwrap_or_else(|| self.make_follower(modules)));
@@ -134,17 +137,10 @@ impl<R: Registers> Session<R> {
         self.last.1
     }
 
-    /// Makes a step from a frame at an address by the modules of a list, over the words of a sample, and returns its status.
+    /// Makes a step from a frame by the modules of a list, over the words of a sample, and returns its status.
     #[inline(always)]
-    pub(crate) fn step<D: Deref<Target = [u8]>>(
-        &mut self,
-        modules: &Modules<D, R>,
-        address: FrameAddress,
-        frame: &mut Frame<R>,
-        sample: &Sample,
-    ) -> u32 {
+    pub(crate) fn step<D: Deref<Target = [u8]>>(&mut self, modules: &Modules<D, R>, frame: &mut Frame<R>, sample: &Sample) -> u32 {
         (frame.unwinder, frame.cache) = (self.follow(modules), self.cache);
-        frame.set_address(address);
         // SAFETY: the unwinder has the modules of the list and no others. They are borrowed with it, each behind an `Arc` and never written,
         // so that their bytes are where they were when they were lent. All else is borrowed too.
         unsafe { R::UNWIND_FRAME(&mut self.handle, frame, sample) }

@@ -3,12 +3,11 @@
 //! A step that asks for words is made again with each of them, and looked up each time. Where its rule was found before, the words are asked
 //! for first, and one call does. The library decides what they mean: a word that is missing is asked for, and one too much isn't used.
 
-use crate::code_address::FrameAddress;
-use crate::layout::Word;
+use crate::layout::{Frame, Word};
 use crate::modules::VERSIONS_APART;
 
 /// As many as a cache has.
-const SLOTS: usize = 509;
+pub(crate) const SLOTS: u64 = 509;
 
 /// As many words as a rule reads.
 pub(crate) const READS: usize = 2;
@@ -79,24 +78,24 @@ pub(crate) struct Sought {
 impl Sought {
     /// A step from a frame by modules of a version.
     #[inline(always)]
-    pub(crate) fn of(version: u64, frame: FrameAddress) -> Sought {
-        let kind = version.wrapping_add(OF_RETURN * u64::from(frame.is_return_address()));
+    pub(crate) fn of<R>(version: u64, frame: &Frame<R>) -> Sought {
+        let kind = version.wrapping_add(OF_RETURN * frame.is_at_return());
         Sought { address: frame.address_for_lookup(), kind }
     }
 }
 
 /// The habits of a cache.
-pub(crate) struct Habits(Box<[Habit; SLOTS]>);
+pub(crate) struct Habits(Box<[Habit; SLOTS as usize]>);
 
 impl Habits {
     pub(crate) fn new() -> Self {
-        Habits(Box::new([Habit::of(Sought { address: 0, kind: 0 }); SLOTS]))
+        Habits(Box::new([Habit::of(Sought { address: 0, kind: 0 }); SLOTS as usize]))
     }
 
     /// The slot of a step.
     #[inline(always)]
     pub(crate) fn slot(&mut self, sought: Sought) -> &mut Habit {
-        &mut self.0[(sought.address % SLOTS as u64) as usize]
+        &mut self.0[(sought.address % SLOTS) as usize]
     }
 }
 

@@ -163,6 +163,18 @@ impl<R> Frame<R> {
         self.place = AT_INSTRUCTION + u64::from(address.is_return_address());
         self.address = address.address();
     }
+
+    /// 1 at a return address, else 0.
+    #[inline(always)]
+    pub(crate) fn is_at_return(&self) -> u64 {
+        self.place.wrapping_sub(AT_INSTRUCTION)
+    }
+
+    /// The address that it is looked up by.
+    #[inline(always)]
+    pub(crate) fn address_for_lookup(&self) -> u64 {
+        self.address.wrapping_sub(self.is_at_return())
+    }
 }
 
 /// Frames are the same if their registers are.

@@ -70,10 +70,11 @@ impl<R: Registers + Pointing, P: AllocationPolicy> Mirror<R, P> {
         frame: &mut Frame<R>,
         read_stack: &mut F,
     ) -> Result<Option<u64>, Error> {
-        let sought = Sought::of(modules.version(), address);
+        frame.set_address(address);
+        let sought = Sought::of(modules.version(), frame);
         let foreseen = self.habits.slot(sought).foreseen(sought, frame.registers.pointers());
         let Some(Foreseen { count, addresses: [first, second] }) = foreseen else {
-            return self.step_anew(modules, address, frame, read_stack).result();
+            return self.step_anew(modules, frame, read_stack).result();
         };
         self.stats.hit_count += 1;
         let mut copied = [CopiedWord::of(0); READS];
@@ -82,7 +83,7 @@ impl<R: Registers + Pointing, P: AllocationPolicy> Mirror<R, P> {
             Sample::of_copied(first, &[], &[])
         } else {
             let Ok(word) = read_stack(first) else {
-                return self.step_over(&[Word::of(first, Err(()))], modules, address, frame, read_stack).result();
+                return self.step_over(&[Word::of(first, Err(()))], modules, frame, read_stack).result();
             };
             copied[0] = CopiedWord::of(word);
             if count == 1 {
@@ -90,7 +91,7 @@ impl<R: Registers + Pointing, P: AllocationPolicy> Mirror<R, P> {
             } else {
                 let Ok(other) = read_stack(second) else {
                     let words = [Word::of(first, Ok(word)), Word::of(second, Err(()))];
-                    return self.step_over(&words, modules, address, frame, read_stack).result();
+                    return self.step_over(&words, modules, frame, read_stack).result();
                 };
                 copied[1] = CopiedWord::of(other);
                 if second == first.wrapping_add(8) {
@@ -101,9 +102,9 @@ impl<R: Registers + Pointing, P: AllocationPolicy> Mirror<R, P> {
                 }
             }
         };
-        let status = self.session.step(modules, address, frame, &sample);
+        let status = self.session.step(modules, frame, &sample);
         if status != 0 {
-            return self.step_after(status, &copied, modules, address, frame, read_stack).result();
+            return self.step_after(status, &copied, modules, frame, read_stack).result();
         }
         Ok(Some(frame.return_address))
     }
@@ -114,11 +115,10 @@ impl<R: Registers + Pointing, P: AllocationPolicy> Mirror<R, P> {
     fn step_anew<D: Deref<Target = [u8]>, F: FnMut(u64) -> Result<u64, ()>>(
         &mut self,
         modules: &Modules<D, R>,
-        address: FrameAddress,
         frame: &mut Frame<R>,
         read_stack: &mut F,
     ) -> Answer {
-        let sought = Sought::of(modules.version(), address);
+        let sought = Sought::of(modules.version(), frame);
         let Mirror { session, habits, known, stats } = self;
         let habit = habits.slot(sought);
         habit.turn_to(sought);
@@ -126,7 +126,7 @@ impl<R: Registers + Pointing, P: AllocationPolicy> Mirror<R, P> {
         session.follow(modules);
         let before = if habit.finds() { None } else { Some(session.stats()) };
         known.words.clear();
-        let answer = Asking { session, modules, address, known }.step(frame, read_stack).1;
+        let answer = Asking { session, modules, known }.step(frame, read_stack).1;
         if let Some(before) = before {
             let after = session.stats();
             let hits = after.hit_count - before.hit_count;
@@ -149,18 +149,17 @@ impl<R: Registers + Pointing, P: AllocationPolicy> Mirror<R, P> {
         status: u32,
         copied: &[CopiedWord; READS],
         modules: &Modules<D, R>,
-        address: FrameAddress,
         frame: &mut Frame<R>,
         read_stack: &mut F,
     ) -> Answer {
         let answer = Answer::of(status, frame);
-        let sought = Sought::of(modules.version(), address);
+        let sought = Sought::of(modules.version(), frame);
         let foreseen = self.habits.slot(sought).foreseen(sought, frame.registers.pointers());
         let (Some(_), Some(Foreseen { count, addresses })) = (answer.needed(), foreseen) else {
             return answer;
         };
         let words = [0, 1].map(|it| Word::of(addresses[it], Ok(copied[it].value())));
-        self.step_over(&words[..usize::from(count)], modules, address, frame, read_stack)
+        self.step_over(&words[..usize::from(count)], modules, frame, read_stack)
     }
 
     /// Makes a step over words, and over more if it asks for any: then nothing was foreseen rightly.
@@ -170,15 +169,14 @@ impl<R: Registers + Pointing, P: AllocationPolicy> Mirror<R, P> {
         &mut self,
         words: &[Word],
         modules: &Modules<D, R>,
-        address: FrameAddress,
         frame: &mut Frame<R>,
         read_stack: &mut F,
     ) -> Answer {
         let Mirror { session, habits, known, .. } = self;
         known.note(words);
-        let (asked_for_more, answer) = Asking { session, modules, address, known }.step(frame, read_stack);
+        let (asked_for_more, answer) = Asking { session, modules, known }.step(frame, read_stack);
         if asked_for_more {
-            habits.slot(Sought::of(modules.version(), address)).forget();
+            habits.slot(Sought::of(modules.version(), frame)).forget();
         }
         answer
     }
@@ -194,7 +192,6 @@ impl<R: Registers, P> Drop for Mirror<R, P> {
 struct Asking<'a, D, R, P> {
     session: &'a mut Session<R>,
     modules: &'a Modules<D, R>,
-    address: FrameAddress,
     known: &'a mut KnownWords<P>,
 }
 
@@ -204,7 +201,7 @@ impl<D: Deref<Target = [u8]>, R: Registers, P: AllocationPolicy> Asking<'_, D, R
         let count = self.known.words.len();
         loop {
             let sample = Sample::of_known(&self.known.words);
-            let answer = Answer::of(self.session.step(self.modules, self.address, frame, &sample), frame);
+            let answer = Answer::of(self.session.step(self.modules, frame, &sample), frame);
             let Some(at) = answer.needed() else {
                 return (self.known.words.len() > count, answer);
             };
