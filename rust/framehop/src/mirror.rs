@@ -126,7 +126,9 @@ impl<R: Registers + Pointing, P: AllocationPolicy> Mirror<R, P> {
         session.follow(modules);
         let before = if habit.finds() { None } else { Some(session.stats()) };
         known.words.clear();
-        let answer = Asking { session, modules, known }.step(frame, read_stack).1;
+        let mut asking = Asking { session, modules, known };
+        let first = asking.step(frame);
+        let answer = asking.end(first, frame, read_stack);
         if let Some(before) = before {
             let after = session.stats();
             let hits = after.hit_count - before.hit_count;
@@ -174,11 +176,12 @@ impl<R: Registers + Pointing, P: AllocationPolicy> Mirror<R, P> {
     ) -> Answer {
         let Mirror { session, habits, known, .. } = self;
         known.note(words);
-        let (asked_for_more, answer) = Asking { session, modules, known }.step(frame, read_stack);
-        if asked_for_more {
+        let mut asking = Asking { session, modules, known };
+        let first = asking.step(frame);
+        if first.needed().is_some() {
             habits.slot(Sought::of(modules.version(), frame)).forget();
         }
-        answer
+        asking.end(first, frame, read_stack)
     }
 }
 
@@ -196,18 +199,20 @@ struct Asking<'a, D, R, P> {
 }
 
 impl<D: Deref<Target = [u8]>, R: Registers, P: AllocationPolicy> Asking<'_, D, R, P> {
-    /// Makes the step over the words that are known. Returns whether it asked for others too, and what it gives in the end.
-    fn step<F: FnMut(u64) -> Result<u64, ()>>(&mut self, frame: &mut Frame<R>, read_stack: &mut F) -> (bool, Answer) {
-        let count = self.known.words.len();
-        loop {
-            let sample = Sample::of_known(&self.known.words);
-            let answer = Answer::of(self.session.step(self.modules, frame, &sample), frame);
-            let Some(at) = answer.needed() else {
-                return (self.known.words.len() > count, answer);
-            };
+    /// Makes the step over the words that are known.
+    fn step(&mut self, frame: &mut Frame<R>) -> Answer {
+        let status = self.session.step(self.modules, frame, &Sample::of_known(&self.known.words));
+        Answer::of(status, frame)
+    }
+
+    /// What the step gives in the end, after this.
+    fn end<F: FnMut(u64) -> Result<u64, ()>>(&mut self, mut answer: Answer, frame: &mut Frame<R>, read_stack: &mut F) -> Answer {
+        while let Some(at) = answer.needed() {
             if !self.known.ask(at, read_stack) {
-                return (true, Answer::unread(at));
+                return Answer::unread(at);
             }
+            answer = self.step(frame);
         }
+        answer
     }
 }
