@@ -89,7 +89,8 @@ pub(crate) struct Habits(Box<[Habit; SLOTS as usize]>);
 
 impl Habits {
     pub(crate) fn new() -> Self {
-        Habits(Box::new([Habit::of(Sought { address: 0, kind: 0 }); SLOTS as usize]))
+        let habits = vec![Habit::of(Sought { address: 0, kind: 0 }); SLOTS as usize];
+        Habits(habits.try_into().unwrap_or_else(|_| unreachable!()))
     }
 
     /// The slot of a step.
