@@ -45,6 +45,25 @@ impl Pointing for [u64; 4] {
     }
 }
 
+/// How many words a step reads, and whether the second is the next after the first.
+#[derive(Clone, Copy, PartialEq, Eq)]
+pub(crate) enum Reads {
+    None,
+    One,
+    SideBySide,
+    Apart,
+}
+
+impl Reads {
+    pub(crate) fn count(self) -> usize {
+        match self {
+            Reads::None => 0,
+            Reads::One => 1,
+            Reads::SideBySide | Reads::Apart => 2,
+        }
+    }
+}
+
 /// What the last step of a slot was, and what was learned of such steps.
 #[derive(Clone, Copy)]
 pub(crate) struct Habit {
@@ -57,8 +76,8 @@ pub(crate) struct Habit {
     distances: [u64; READS],
     /// -1 for words that the frame pointer leads to, else 0.
     by_fp: [i8; READS],
-    /// How many words such steps read.
-    count: u8,
+    /// The words that such steps read.
+    reads: Reads,
     /// -1 if the words are known only where the frame pointer is as far from the stack pointer as it was, 0 if several steps told which
     /// register leads to each.
     by_apart: i8,
@@ -103,7 +122,7 @@ impl Habits {
 /// The addresses of the words that a step will read. Those that there aren't are the stack pointer.
 #[derive(Clone, Copy)]
 pub(crate) struct Foreseen {
-    pub(crate) count: u8,
+    pub(crate) reads: Reads,
     pub(crate) addresses: [u64; READS],
 }
 
@@ -115,7 +134,7 @@ impl Habit {
             apart: 0,
             distances: [0; READS],
             by_fp: [0; READS],
-            count: 0,
+            reads: Reads::None,
             by_apart: 0,
             finds: false,
             is_known: false,
@@ -154,9 +173,9 @@ impl Habit {
             return None;
         }
         let at = |it: usize| sp.wrapping_add(apart & mask(self.by_fp[it])).wrapping_add(self.distances[it]);
-        let addresses = [at(0), if self.count > 1 { at(1) } else { sp }];
+        let addresses = [at(0), if self.reads.count() > 1 { at(1) } else { sp }];
         let is_in_use = addresses.iter().all(|it| *it >= sp);
-        is_in_use.then_some(Foreseen { count: self.count, addresses })
+        is_in_use.then_some(Foreseen { reads: self.reads, addresses })
     }
 
     /// Learns from a step that asked for these words.
@@ -166,7 +185,7 @@ impl Habit {
         }
         let before = *self;
         self.apart = pointers.fp.wrapping_sub(pointers.sp);
-        self.count = asked.len() as u8;
+        self.reads = [Reads::None, Reads::One, Reads::Apart][asked.len()];
         self.is_known = true;
         self.by_apart = -1;
         self.distances = [0; READS];
@@ -174,8 +193,11 @@ impl Habit {
         for (distance, word) in self.distances.iter_mut().zip(asked) {
             *distance = word.address().wrapping_sub(pointers.sp);
         }
-        if before.is_known && before.by_apart != 0 && before.count == self.count {
+        if before.is_known && before.by_apart != 0 && before.reads.count() == asked.len() {
             self.join(&before);
+        }
+        if asked.len() == 2 && self.by_fp[0] == self.by_fp[1] && self.distances[1] == self.distances[0].wrapping_add(8) {
+            self.reads = Reads::SideBySide;
         }
         self.set_ready();
     }
@@ -184,7 +206,7 @@ impl Habit {
     fn join(&mut self, before: &Habit) {
         let mut told = *self;
         told.by_apart = 0;
-        for it in 0..usize::from(self.count) {
+        for it in 0..self.reads.count() {
             let from_fp = |habit: &Habit| habit.distances[it].wrapping_sub(habit.apart);
             match (self.distances[it] == before.distances[it], from_fp(self) == from_fp(before)) {
                 (true, false) => {}

@@ -4,7 +4,7 @@ use crate::c::{Registers, Session};
 use crate::cache::{AllocationPolicy, CacheStats};
 use crate::code_address::FrameAddress;
 use crate::error::Error;
-use crate::habits::{Foreseen, Habits, Pointing, READS, Sought};
+use crate::habits::{Foreseen, Habits, Pointing, READS, Reads, Sought};
 use crate::layout::{CopiedWord, Frame, Sample, Word};
 use crate::modules::Modules;
 use crate::status::Answer;
@@ -73,20 +73,20 @@ impl<R: Registers + Pointing, P: AllocationPolicy> Mirror<R, P> {
         frame.set_address(address);
         let sought = Sought::of(modules.version(), frame);
         let foreseen = self.habits.slot(sought).foreseen(sought, frame.registers.pointers());
-        let Some(Foreseen { count, addresses: [first, second] }) = foreseen else {
+        let Some(Foreseen { reads, addresses: [first, second] }) = foreseen else {
             return self.step_anew(modules, frame, read_stack).result();
         };
         self.stats.hit_count += 1;
         let mut copied = [CopiedWord::of(0); READS];
         let beside;
-        let sample = if count == 0 {
+        let sample = if reads == Reads::None {
             Sample::of_copied(first, &[], &[])
         } else {
             let Ok(word) = read_stack(first) else {
                 return self.step_over(&[Word::of(first, Err(()))], modules, frame, read_stack).result();
             };
             copied[0] = CopiedWord::of(word);
-            if count == 1 {
+            if reads == Reads::One {
                 Sample::of_copied(first, &copied[..1], &[])
             } else {
                 let Ok(other) = read_stack(second) else {
@@ -94,7 +94,7 @@ impl<R: Registers + Pointing, P: AllocationPolicy> Mirror<R, P> {
                     return self.step_over(&words, modules, frame, read_stack).result();
                 };
                 copied[1] = CopiedWord::of(other);
-                if second == first.wrapping_add(8) {
+                if reads == Reads::SideBySide {
                     Sample::of_copied(first, &copied, &[])
                 } else {
                     beside = [Word::of(first, Ok(word))];
@@ -157,11 +157,11 @@ impl<R: Registers + Pointing, P: AllocationPolicy> Mirror<R, P> {
         let answer = Answer::of(status, frame);
         let sought = Sought::of(modules.version(), frame);
         let foreseen = self.habits.slot(sought).foreseen(sought, frame.registers.pointers());
-        let (Some(_), Some(Foreseen { count, addresses })) = (answer.needed(), foreseen) else {
+        let (Some(_), Some(Foreseen { reads, addresses })) = (answer.needed(), foreseen) else {
             return answer;
         };
         let words = [0, 1].map(|it| Word::of(addresses[it], Ok(copied[it].value())));
-        self.step_over(&words[..usize::from(count)], modules, frame, read_stack)
+        self.step_over(&words[..reads.count()], modules, frame, read_stack)
     }
 
     /// Makes a step over words, and over more if it asks for any: then nothing was foreseen rightly.
