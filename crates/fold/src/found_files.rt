@@ -4,6 +4,7 @@ ghost use Rattle.std.specs.Prelude.{◌≡◌};
 ghost use Rattle.std.specs.Option.{option_copied};
 ghost use Rattle.fold.specs.Files.{is_machine, is_other};
 
+use crate::progress::clear_line;
 use crate::recording::NamedBuildId;
 use backtrace_text::push_name;
 use elf_files::{ElfFile, Machine, SectionKind};
@@ -155,6 +156,7 @@ fn say_of_file(rt: &HostRuntime, name: &[u8], what: &str) -> Result<(), AllocErr
     let mut shown = Vec::new(rt.alloc());
     push_name(rt.alloc(), &mut shown, name)?;
     if let Ok(shown) = str::from_utf8(shown.as_slice()) {
+        let _ = clear_line(rt);
         let _ = eprintln!(rt; "fold: {shown}: {what}");
     }
     Ok(())

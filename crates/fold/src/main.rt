@@ -7,6 +7,7 @@
 mod event_names;
 mod found_files;
 mod output;
+mod progress;
 mod recording;
 mod samples;
 mod source;

@@ -2,6 +2,7 @@
 
 use crate::found_files::FoundFiles;
 use crate::output::{write_lines, write_picture, write_summary};
+use crate::progress::{Progress, clear_line};
 use crate::recording::Recording;
 use crate::source::Source;
 use anyhow::{Result, bail};
@@ -27,7 +28,9 @@ fn take_all<A: SampleArch>(
         names: recording.event_names.as_slice(),
     };
     let mut unreadable = recording.unreadable;
-    for place in &recording.places {
+    let mut progress = Progress::new(rt, recording.places.len());
+    for (taken, place) in recording.places.iter().enumerate() {
+        progress.show(rt, taken)?;
         let bytes = source.record_bytes(place.offset, AHEAD)?;
         let Ok(Some((record, _))) = record_at(bytes, place.offset) else {
             unreadable = unreadable.saturating_add(1);
@@ -39,6 +42,7 @@ fn take_all<A: SampleArch>(
             Err(_) => unreadable = unreadable.saturating_add(1),
         }
     }
+    clear_line(rt)?;
     Ok(unreadable)
 }
 
