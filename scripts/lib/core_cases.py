@@ -33,6 +33,21 @@ int main(int argc, char **argv) {
 }
 """
 
+# A stack that is realigned at each call: the row's CFA is in r10 first, and then in memory.
+ALIGNED = """
+#include <stdlib.h>
+#include <string.h>
+__attribute__((noinline)) long down(long n) {
+    _Alignas(64) volatile char room[128];
+    volatile char *more = __builtin_alloca(n * 16 + 16);
+    memset((void *)room, (int)n, sizeof room);
+    memset((void *)more, (int)n, n * 16 + 16);
+    if (n == 0) abort();
+    return down(n - 1) + room[n] + more[n];
+}
+int main(int argc, char **argv) { return (int)down(argc > 1 ? atol(argv[1]) : 5); }
+"""
+
 THREADS = """
 #include <pthread.h>
 #include <stdlib.h>
@@ -205,6 +220,7 @@ BUILT = {
     "c": (DOWN, "gcc", ["-O1"], ["20"]),
     "c-plain": (DOWN, "gcc", ["-O0"], ["20"]),
     "c-clang": (DOWN, "clang", ["-O2", "-fomit-frame-pointer"], ["20"]),
+    "aligned": (ALIGNED, "gcc", ["-O2"], ["20"]),
     "callback": (SORTS, "gcc", ["-O2"], []),
     "exception": (THROWS, "g++", ["-O1"], []),
     "exception-clang": (THROWS, "clang++", ["-O2"], []),

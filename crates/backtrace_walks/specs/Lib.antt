@@ -2,6 +2,7 @@ pub mod Backtraces
 pub mod Calls
 pub mod CourseViews
 pub mod Modules
+pub mod Numbered
 pub mod ProcessViews
 pub mod Registers
 pub mod SessionViews

@@ -4,12 +4,19 @@ use Rattle.std.specs.Option.{option_map}
 use Rattle.backtrace_files.specs.Files.{CodeOfFile, ProcessFile, loaded_code}
 use Rattle.backtrace_files.specs.Sections.{sections_of}
 use Rattle.core_files.specs.MappedFiles.{FileMapping}
-use Rattle.framehop_loads.specs.UnwindData.{UnwindData, both_data_of}
+use Rattle.framehop_loads.specs.LoadOptions.{with_both}
+use Rattle.framehop_loads.specs.UnwindData.{UnwindData, unwind_data_with}
+use Rattle.framehop_loads.specs.declared.load_options.LoadOptions.{LoadOptions}
+use Rattle.framehop_loads.specs.declared.load_options.Rows.TheVariants.{Whole}
 use Rattle.framehop_unwinder.specs.Modules.{Loaded, with_loaded}
 
--- the unwind data of a file's code: that of its sections, with `.debug_frame` beside `.eh_frame`
+-- what is asked for of each module: `.debug_frame` beside `.eh_frame`, and rows that say what DWARF says
+abbrev pub options_of_files : LoadOptions
+options_of_files = record with_both { rows = Whole }
+
+-- the unwind data of a file's code: that of its sections
 abbrev pub data_of_code : CodeOfFile → UnwindData
-data_of_code code = both_data_of (sections_of code.bytes code.header code.base_svma)
+data_of_code code = unwind_data_with options_of_files (sections_of code.bytes code.header code.base_svma)
 
 -- the module of a mapping with code: its addresses are those of the mapping, and relative ones count from where the segment with the
 -- code begins

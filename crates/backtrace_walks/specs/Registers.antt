@@ -12,6 +12,8 @@ use Rattle.framehop_registers.specs.declared.aarch64.unwindregs.PtrAuthMask.{Ptr
 use Rattle.framehop_registers.specs.declared.aarch64.unwindregs.UnwindRegsAarch64.{UnwindRegsAarch64}
 use Rattle.framehop_registers.specs.declared.x86_64.unwindregs.Reg.TheVariants.{RAX, RDX, RCX, RBX, RSI, RDI, R8, R9, R10, R11, R12, R13, R14, R15}
 use Rattle.framehop_registers.specs.declared.x86_64.unwindregs.UnwindRegsX86_64.{UnwindRegsX86_64}
+use Rattle.framehop_whole_steps.specs.declared.registers.WholeRegs.{WholeRegs}
+use Rattle.backtrace_walks.specs.Numbered.{numbered_aarch64, numbered_x86_64}
 use Rattle.backtrace_walks.specs.declared.registers.ThreadStart.{ThreadStart}
 
 -- a register with its name
@@ -20,7 +22,7 @@ shown_register name value = record { name = name; value = value }
 
 -- ---- x86_64
 
--- RIP and all general registers
+-- RIP and all general registers, of which rules carry some
 abbrev pub registers_x86_64 : UserRegsX86_64 → UnwindRegsX86_64
 registers_x86_64 user =
     with_values (new_registers user.rip user.rsp user.rbp)
@@ -38,9 +40,13 @@ with_numbered registers user =
     with_values registers (R8 ∷ R9 ∷ R10 ∷ R11 ∷ R12 ∷ R13 ∷ R14 ∷ R15 ∷ [])
     (user.r8 ∷ user.r9 ∷ user.r10 ∷ user.r11 ∷ user.r12 ∷ user.r13 ∷ user.r14 ∷ user.r15 ∷ [])
 
+-- with all that the core has by their DWARF numbers
+abbrev pub whole_x86_64 : UserRegsX86_64 → WholeRegs UnwindRegsX86_64
+whole_x86_64 user = record { regs = registers_x86_64 user; others = Some (numbered_x86_64 user) }
+
 -- where the walk over a thread's stack begins, if its registers are those of x86_64
-abbrev pub start_x86_64 : ThreadRegisters → Option (ThreadStart UnwindRegsX86_64)
-start_x86_64 (X86_64 user) = Some (record { pc = user.rip; registers = registers_x86_64 user })
+abbrev pub start_x86_64 : ThreadRegisters → Option (ThreadStart (WholeRegs UnwindRegsX86_64))
+start_x86_64 (X86_64 user) = Some (record { pc = user.rip; registers = whole_x86_64 user })
 start_x86_64 (Aarch64 user) = None
 
 -- the registers that each step gives
@@ -63,10 +69,14 @@ registers_aarch64 user masks =
     let mask = mask_of_thread masks in
     aarch64.new_registers mask (aarch64.stripped_address mask (slice_index user.regs 30)) user.sp (slice_index user.regs 29)
 
+-- with all that the core has by their DWARF numbers
+abbrev pub whole_aarch64 : UserRegsAarch64 → Option PointerAuthenticationMasks → WholeRegs UnwindRegsAarch64
+whole_aarch64 user masks = record { regs = registers_aarch64 user masks; others = Some (numbered_aarch64 user) }
+
 -- where the walk over a thread's stack begins, if its registers are those of aarch64
-abbrev pub start_aarch64 : ThreadRegisters → Option PointerAuthenticationMasks → Option (ThreadStart UnwindRegsAarch64)
+abbrev pub start_aarch64 : ThreadRegisters → Option PointerAuthenticationMasks → Option (ThreadStart (WholeRegs UnwindRegsAarch64))
 start_aarch64 (X86_64 user) masks = None
-start_aarch64 (Aarch64 user) masks = Some (record { pc = user.pc; registers = registers_aarch64 user masks })
+start_aarch64 (Aarch64 user) masks = Some (record { pc = user.pc; registers = whole_aarch64 user masks })
 
 -- the registers that each step gives
 abbrev pub shown_aarch64 : UnwindRegsAarch64 → List Register

@@ -2,7 +2,6 @@
 use Rattle.std.specs.Prelude.{List, Option}
 use Rattle.backtrace_text.specs.Frames.{Register}
 use Rattle.core_files.specs.declared.thread.Thread.{Thread}
-use Rattle.framehop.specs.StepMeanings.{meanings_aarch64, meanings_x86_64}
 use Rattle.framehop_loads.specs.StepLimits.{limits_must_not_allocate}
 use Rattle.framehop_loads.specs.UnwindData.{UnwindData}
 use Rattle.framehop_registers.specs.Callback.{Words}
@@ -14,6 +13,9 @@ use Rattle.framehop_unwinder.specs.Attempt.{Meanings}
 use Rattle.framehop_unwinder.specs.Judge.{judge}
 use Rattle.framehop_unwinder.specs.Modules.{Loaded}
 use Rattle.framehop_unwinder.specs.Walk.{Walk}
+use Rattle.framehop_whole_modules.specs.StepMeanings.{whole_aarch64, whole_x86_64}
+use Rattle.framehop_whole_steps.specs.declared.registers.WholeRegs.{WholeRegs}
+use Rattle.framehop_whole_steps.specs.declared.rule.WholeRule.{WholeRule}
 use Rattle.backtrace_walks.specs.Calls.{Calling, called_aarch64, called_x86_64}
 use Rattle.backtrace_walks.specs.Registers.{shown_aarch64, shown_x86_64, start_aarch64, start_x86_64}
 use Rattle.backtrace_walks.specs.Signals.{Interruption, interrupted_aarch64, interrupted_x86_64}
@@ -30,23 +32,23 @@ pub record StackMeanings (Rule Registers : Type 0) : Type 0 where
   pub shown : Registers → List Register
 
 -- those of x86_64, with room for 64 values of an expression
-abbrev pub stacks_x86_64 : StackMeanings UnwindRuleX86_64 UnwindRegsX86_64
+abbrev pub stacks_x86_64 : StackMeanings (WholeRule UnwindRuleX86_64) (WholeRegs UnwindRegsX86_64)
 stacks_x86_64 = record {
-  steps = meanings_x86_64 limits_must_not_allocate;
+  steps = whole_x86_64 limits_must_not_allocate;
   start = λ thread. start_x86_64 thread.registers;
   interrupted = interrupted_x86_64;
   called = called_x86_64;
-  shown = shown_x86_64;
+  shown = λ registers. shown_x86_64 registers.regs;
 }
 
 -- those of aarch64, with room for 64 values of an expression
-abbrev pub stacks_aarch64 : StackMeanings UnwindRuleAarch64 UnwindRegsAarch64
+abbrev pub stacks_aarch64 : StackMeanings (WholeRule UnwindRuleAarch64) (WholeRegs UnwindRegsAarch64)
 stacks_aarch64 = record {
-  steps = meanings_aarch64 limits_must_not_allocate;
+  steps = whole_aarch64 limits_must_not_allocate;
   start = λ thread. start_aarch64 thread.registers thread.pointer_authentication_masks;
   interrupted = interrupted_aarch64;
   called = called_aarch64;
-  shown = shown_aarch64;
+  shown = λ registers. shown_aarch64 registers.regs;
 }
 
 -- a move of a walk over a stack by these modules: a signal's frame is read from the memory, and steps read these words

@@ -14,6 +14,7 @@ use backtrace_headings::Heading;
 use backtrace_json::TextForm;
 use backtrace_text::{CodeLocation, FunctionNames, RegisterValue, ShownFrame};
 use core_files::Memory;
+use framehop_whole_modules::WholeRegs;
 use std::alloc::{AllocError, Global};
 
 /// What is shown of each frame.
@@ -53,7 +54,7 @@ pub struct CoreProcess<'f, 'm, 'a> {
 fn registers_if<A: ThreadArch>(
     alloc: Global,
     are_shown: bool,
-    registers: &A::UnwindRegs,
+    registers: &WholeRegs<A::UnwindRegs>,
 ) -> Result<Vec<RegisterValue>, AllocError>
     ensures { IfOkAre register_view result (registers_if A.stacks are_shown registers.now) }
 {
@@ -68,7 +69,7 @@ fn registers_if<A: ThreadArch>(
 #[tactic(auto, using(crate::proofs::Addresses::same_address, crate::proofs::Addresses::same_lookup))]
 fn location_of_frame<'a, A: ThreadArch>(
     process: &CoreProcess<'_, '_, 'a>,
-    frame: &WalkedFrame<A::UnwindRegs>,
+    frame: &WalkedFrame<WholeRegs<A::UnwindRegs>>,
 ) -> CodeLocation<'a>
     ensures { location_view result
         ≡ location_of_frame A.stacks (process_seen process.now) (frame_seen frame.now) }
@@ -85,7 +86,7 @@ pub(crate) fn shown_frame<'a, A: ThreadArch>(
     alloc: Global,
     process: &CoreProcess<'_, '_, 'a>,
     options: FrameOptions,
-    frame: &WalkedFrame<A::UnwindRegs>,
+    frame: &WalkedFrame<WholeRegs<A::UnwindRegs>>,
 ) -> Result<ShownFrame<'a>, AllocError>
     ensures { IfOkIs frame_view result
         (shown_frame A.stacks (process_seen process.now) options (frame_seen frame.now)) }

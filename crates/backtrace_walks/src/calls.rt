@@ -7,6 +7,7 @@ ghost use Rattle.backtrace_walks.specs.Calls.{called_aarch64, called_x86_64};
 use core_files::Memory;
 use framehop_registers::aarch64::UnwindRegsAarch64;
 use framehop_registers::x86_64::UnwindRegsX86_64;
+use framehop_whole_modules::WholeRegs;
 
 /// Where a call was made.
 #[derive(Clone, Copy, Debug, PartialEq, Eq)]
@@ -20,19 +21,19 @@ pub struct CallSite<R> {
 /// Where a call was made whose function has done nothing yet, on x86_64: the return address is at the stack pointer.
 pub(crate) fn called_x86_64(
     memory: &Memory<'_, '_>,
-    registers: &UnwindRegsX86_64,
-) -> Option<CallSite<UnwindRegsX86_64>>
+    registers: &WholeRegs<UnwindRegsX86_64>,
+) -> Option<CallSite<WholeRegs<UnwindRegsX86_64>>>
     ensures { result ≡ called_x86_64 (word_of memory.now) registers.now }
 {
-    let Some(caller_sp) = registers.sp().checked_add(8) else {
+    let Some(caller_sp) = registers.regs.sp().checked_add(8) else {
         return None;
     };
-    let Some(return_address) = memory.word(registers.sp()) else {
+    let Some(return_address) = memory.word(registers.regs.sp()) else {
         return None;
     };
     let mut caller = *registers;
-    caller.set_ip(return_address);
-    caller.set_sp(caller_sp);
+    caller.regs.set_ip(return_address);
+    caller.regs.set_sp(caller_sp);
     Some(CallSite {
         return_address,
         registers: caller,
@@ -40,11 +41,13 @@ pub(crate) fn called_x86_64(
 }
 
 /// The same on aarch64: the return address is in the link register.
-pub(crate) fn called_aarch64(registers: &UnwindRegsAarch64) -> Option<CallSite<UnwindRegsAarch64>>
+pub(crate) fn called_aarch64(
+    registers: &WholeRegs<UnwindRegsAarch64>,
+) -> Option<CallSite<WholeRegs<UnwindRegsAarch64>>>
     ensures { (words : ℕ → Option ℕ) → result ≡ called_aarch64 words registers.now }
 {
     Some(CallSite {
-        return_address: registers.lr(),
+        return_address: registers.regs.lr(),
         registers: *registers,
     })
 }

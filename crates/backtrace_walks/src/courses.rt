@@ -17,6 +17,7 @@ use crate::walks::{NextFrame, WalkedFrame};
 use backtrace_files::may_be_code_at;
 use framehop::{Session, StackWalk};
 use framehop_registers::FrameAddress;
+use framehop_whole_modules::WholeRegs;
 
 /// The course of a walk over a thread's stack: where the walk is, and the frame that comes before its next move, if there is one.
 #[derive(Clone, Copy, Debug)]
@@ -58,8 +59,8 @@ fn frame_of_call<R: Copy>(
 // The frame that called an address without code, by the frame there.
 fn caller_of<A: ThreadArch>(
     process: &CoreProcess<'_, '_, '_>,
-    frame: &WalkedFrame<A::UnwindRegs>,
-) -> Option<WalkedFrame<A::UnwindRegs>>
+    frame: &WalkedFrame<WholeRegs<A::UnwindRegs>>,
+) -> Option<WalkedFrame<WholeRegs<A::UnwindRegs>>>
     ensures { option_map frame_seen result
         ≡ caller_of A.stacks (process_seen process.now) (frame_seen frame.now) }
 {
@@ -79,8 +80,8 @@ fn caller_of<A: ThreadArch>(
 #[tactic(auto, using(crate::proofs::Addresses::same_address))]
 fn walk_on<A: ThreadArch>(
     process: &CoreProcess<'_, '_, '_>,
-    frame: &WalkedFrame<A::UnwindRegs>,
-) -> StackWalk<A::UnwindRegs>
+    frame: &WalkedFrame<WholeRegs<A::UnwindRegs>>,
+) -> StackWalk<WholeRegs<A::UnwindRegs>>
     ensures { walk_of result ≡ walk_on A.stacks (process_seen process.now) (frame_seen frame.now) }
 {
     match A::interrupted(&process.memory, frame.address.address(), &frame.registers) {
@@ -92,8 +93,8 @@ fn walk_on<A: ThreadArch>(
 // The frame that called what was next, if it is at an address without code.
 fn caller_behind<A: ThreadArch>(
     process: &CoreProcess<'_, '_, '_>,
-    next: &NextFrame<A::UnwindRegs>,
-) -> Option<WalkedFrame<A::UnwindRegs>>
+    next: &NextFrame<WholeRegs<A::UnwindRegs>>,
+) -> Option<WalkedFrame<WholeRegs<A::UnwindRegs>>>
     ensures { option_map frame_seen result
         ≡ caller_behind A.stacks (process_seen process.now) (next_seen next.now) }
 {
@@ -106,9 +107,9 @@ fn caller_behind<A: ThreadArch>(
 // The course behind a frame, by the frame that called it, if it is at an address without code.
 fn course_by<A: ThreadArch>(
     process: &CoreProcess<'_, '_, '_>,
-    caller: Option<WalkedFrame<A::UnwindRegs>>,
-    walk: StackWalk<A::UnwindRegs>,
-) -> ThreadWalk<A::UnwindRegs>
+    caller: Option<WalkedFrame<WholeRegs<A::UnwindRegs>>>,
+    walk: StackWalk<WholeRegs<A::UnwindRegs>>,
+) -> ThreadWalk<WholeRegs<A::UnwindRegs>>
     ensures { course_of result
         ≡ course_by A.stacks (process_seen process.now) (option_map frame_seen caller) (walk_of walk) }
 {
@@ -135,8 +136,8 @@ pub(crate) fn course_from<R: Copy>(start: &ThreadStart<R>) -> ThreadWalk<R>
 fn next_of_walk<'a, A: ThreadArch>(
     session: &mut Session<FileModules<'a, A>>,
     process: &CoreProcess<'_, '_, 'a>,
-    walk: &mut StackWalk<A::UnwindRegs>,
-) -> NextFrame<A::UnwindRegs>
+    walk: &mut StackWalk<WholeRegs<A::UnwindRegs>>,
+) -> NextFrame<WholeRegs<A::UnwindRegs>>
     requires { IsSessionOf process.now session.old }
     ensures next { IsAdvance result walk.new
         (advance_of_thread A.stacks (process_seen process.now) (walk_of walk.old)) }
@@ -149,8 +150,8 @@ fn next_of_walk<'a, A: ThreadArch>(
 pub(crate) fn next_in<'a, A: ThreadArch>(
     session: &mut Session<FileModules<'a, A>>,
     process: &CoreProcess<'_, '_, 'a>,
-    course: &mut ThreadWalk<A::UnwindRegs>,
-) -> NextFrame<A::UnwindRegs>
+    course: &mut ThreadWalk<WholeRegs<A::UnwindRegs>>,
+) -> NextFrame<WholeRegs<A::UnwindRegs>>
     requires { IsSessionOf process.now session.old }
     ensures next { IsCourseMove result course.new
         (course_move A.stacks (process_seen process.now) (course_of course.old)) }

@@ -3,12 +3,14 @@
 ghost use Rattle.std.specs.Prelude.{◌≡◌, ◌∷◌, [], OnOk};
 ghost use Rattle.backtrace_files.specs.Results.{Adds, IfOkAre};
 ghost use Rattle.backtrace_text.specs.FrameViews.{register_view};
-ghost use Rattle.backtrace_walks.specs.Registers.{mask_of_thread, registers_aarch64, registers_x86_64, shown_aarch64, shown_register, shown_x86_64, with_lettered, with_numbered};
+ghost use Rattle.backtrace_walks.specs.Registers.{mask_of_thread, registers_aarch64, registers_x86_64, shown_aarch64, shown_register, shown_x86_64, whole_aarch64, whole_x86_64, with_lettered, with_numbered};
 
+use crate::numbered::{numbered_aarch64, numbered_x86_64};
 use backtrace_text::RegisterValue;
 use core_files::{PointerAuthenticationMasks, UserRegsAarch64, UserRegsX86_64};
 use framehop_registers::aarch64::{PtrAuthMask, UnwindRegsAarch64};
 use framehop_registers::x86_64::{Reg, UnwindRegsX86_64};
+use framehop_whole_modules::WholeRegs;
 use std::alloc::{AllocError, Global};
 
 /// Where the walk over a thread's stack begins.
@@ -46,14 +48,21 @@ fn set_numbered(registers: &mut UnwindRegsX86_64, user: &UserRegsX86_64)
     registers.set(Reg::R15, user.r15);
 }
 
-/// The registers of a thread on x86_64.
-pub(crate) fn registers_x86_64(user: &UserRegsX86_64) -> UnwindRegsX86_64
+// The registers of a thread on x86_64 that rules carry.
+fn registers_x86_64(user: &UserRegsX86_64) -> UnwindRegsX86_64
     ensures { result ≡ registers_x86_64 user.now }
 {
     let mut registers = UnwindRegsX86_64::new(user.rip, user.rsp, user.rbp);
     set_lettered(&mut registers, user);
     set_numbered(&mut registers, user);
     registers
+}
+
+/// All registers of a thread on x86_64.
+pub(crate) fn whole_x86_64(user: &UserRegsX86_64) -> WholeRegs<UnwindRegsX86_64>
+    ensures { result ≡ whole_x86_64 user.now }
+{
+    WholeRegs::with_others(registers_x86_64(user), numbered_x86_64(user))
 }
 
 // The bits of a code address of a thread that aren't its pointer authentication code.
@@ -66,8 +75,8 @@ fn mask_of_thread(masks: Option<PointerAuthenticationMasks>) -> PtrAuthMask
     }
 }
 
-/// The registers of a thread on aarch64, with the mask that its core says.
-pub(crate) fn registers_aarch64(
+// The registers of a thread on aarch64 that rules carry, with the mask that its core says.
+fn registers_aarch64(
     user: &UserRegsAarch64,
     masks: Option<PointerAuthenticationMasks>,
 ) -> UnwindRegsAarch64
@@ -75,6 +84,16 @@ pub(crate) fn registers_aarch64(
 {
     let mask = mask_of_thread(masks);
     UnwindRegsAarch64::new_with_ptr_auth_mask(mask, user.regs[30], user.sp, user.regs[29])
+}
+
+/// All registers of a thread on aarch64, with the mask that its core says.
+pub(crate) fn whole_aarch64(
+    user: &UserRegsAarch64,
+    masks: Option<PointerAuthenticationMasks>,
+) -> WholeRegs<UnwindRegsAarch64>
+    ensures { result ≡ whole_aarch64 user.now masks }
+{
+    WholeRegs::with_others(registers_aarch64(user, masks), numbered_aarch64(user))
 }
 
 // Adds a register that is shown.

@@ -14,6 +14,7 @@ use framehop::{
     CodeRules, FdeLookup, Generations, LoadOptions, Module, Rows, Session, UnwinderId, Unwinding,
     load_module,
 };
+use framehop_whole_modules::CarriesRegisters;
 use std::alloc::{AllocError, Global};
 
 // The module of a mapping with code.
@@ -30,7 +31,7 @@ fn module_with<'a>(
         tables: None,
         debug_frame_beside: true,
         code_rules: CodeRules::Published,
-        rows: Rows::Published,
+        rows: Rows::Whole,
     };
     let sections = FileSections::new(code.file, code.base_svma);
     let range = mapping.start..mapping.end;
@@ -53,7 +54,7 @@ fn module_of<'a>(
 }
 
 // Makes a new unwinder. A new session has numbers for its generation, so that an error is one of memory.
-fn add_unwinder<'a, A: Unwinding>(
+fn add_unwinder<'a, A: Unwinding + CarriesRegisters>(
     session: &mut Session<FileModules<'a, A>>,
     alloc: Global,
 ) -> Result<(), AllocError>
@@ -66,7 +67,9 @@ fn add_unwinder<'a, A: Unwinding>(
 }
 
 // A session with one unwinder, without a module, and one cache.
-fn empty_session<'a, A: Unwinding>(alloc: Global) -> Result<Session<FileModules<'a, A>>, AllocError>
+fn empty_session<'a, A: Unwinding + CarriesRegisters>(
+    alloc: Global,
+) -> Result<Session<FileModules<'a, A>>, AllocError>
     ensures { IfOk result (λ session. HasModules [] session) }
 {
     let mut session = Session::new(alloc, Generations::new());
@@ -78,7 +81,7 @@ fn empty_session<'a, A: Unwinding>(alloc: Global) -> Result<Session<FileModules<
 // Loads a module in the first unwinder, if there is one. No list has as many modules as the session has generations, so that an error
 // is one of memory.
 #[tactic(auto, using(crate::proofs::SessionLaws::unloaded))]
-fn load_found<'a, A: Unwinding>(
+fn load_found<'a, A: Unwinding + CarriesRegisters>(
     session: &mut Session<FileModules<'a, A>>,
     found: Option<Module<&'a [u8]>>,
 ) -> Result<(), AllocError>
@@ -99,7 +102,7 @@ fn load_found<'a, A: Unwinding>(
 
 /// A session whose one unwinder has the modules of a process's files, each at the addresses of its mapping, and which has one cache.
 /// Fails if memory is refused.
-pub fn session_of<'a, A: Unwinding>(
+pub fn session_of<'a, A: Unwinding + CarriesRegisters>(
     alloc: Global,
     files: &[LoadedFile<'a>],
 ) -> Result<Session<FileModules<'a, A>>, AllocError>

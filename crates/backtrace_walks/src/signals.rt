@@ -5,12 +5,14 @@ ghost use Rattle.core_files.specs.MemoryViews.{word_of};
 ghost use Rattle.backtrace_walks.specs.Signals.{context_aarch64, context_x86_64, has_low_byte, interrupted_aarch64, interrupted_x86_64, is_word, returns_x86_64, saved_word, with_saved_lettered, with_saved_numbered, word_above};
 
 use crate::registers::ThreadStart;
+use crate::saved::{saved_aarch64, saved_x86_64};
 use core_files::Memory;
 use framehop_registers::aarch64::{PtrAuthMask, UnwindRegsAarch64};
 use framehop_registers::x86_64::{Reg, UnwindRegsX86_64};
+use framehop_whole_modules::WholeRegs;
 
-// The word at a distance above an address.
-fn word_above(memory: &Memory<'_, '_>, address: u64, distance: u64) -> Option<u64>
+/// The word at a distance above an address.
+pub(crate) fn word_above(memory: &Memory<'_, '_>, address: u64, distance: u64) -> Option<u64>
     ensures { result ≡ word_above (word_of memory.now) address distance }
 {
     match address.checked_add(distance) {
@@ -96,18 +98,21 @@ fn context_x86_64(memory: &Memory<'_, '_>, sp: u64, pc: u64) -> UnwindRegsX86_64
 pub(crate) fn interrupted_x86_64(
     memory: &Memory<'_, '_>,
     code: u64,
-    registers: &UnwindRegsX86_64,
-) -> Option<ThreadStart<UnwindRegsX86_64>>
+    registers: &WholeRegs<UnwindRegsX86_64>,
+) -> Option<ThreadStart<WholeRegs<UnwindRegsX86_64>>>
     ensures { result ≡ interrupted_x86_64 (word_of memory.now) code registers.now }
 {
     if !returns_x86_64(memory, code) {
         return None;
     }
-    let sp = registers.sp();
+    let sp = registers.regs.sp();
     match word_above(memory, sp, 168) {
         Some(pc) => Some(ThreadStart {
             pc,
-            registers: context_x86_64(memory, sp, pc),
+            registers: WholeRegs::with_others(
+                context_x86_64(memory, sp, pc),
+                saved_x86_64(memory, sp),
+            ),
         }),
         None => None,
     }
@@ -129,18 +134,21 @@ fn context_aarch64(memory: &Memory<'_, '_>, sp: u64, mask: PtrAuthMask) -> Unwin
 pub(crate) fn interrupted_aarch64(
     memory: &Memory<'_, '_>,
     code: u64,
-    registers: &UnwindRegsAarch64,
-) -> Option<ThreadStart<UnwindRegsAarch64>>
+    registers: &WholeRegs<UnwindRegsAarch64>,
+) -> Option<ThreadStart<WholeRegs<UnwindRegsAarch64>>>
     ensures { result ≡ interrupted_aarch64 (word_of memory.now) code registers.now }
 {
     if !is_word(0xd400_0001_d280_1168, memory.word(code)) {
         return None;
     }
-    let sp = registers.sp();
+    let sp = registers.regs.sp();
     match word_above(memory, sp, 568) {
         Some(pc) => Some(ThreadStart {
             pc,
-            registers: context_aarch64(memory, sp, registers.lr_mask()),
+            registers: WholeRegs::with_others(
+                context_aarch64(memory, sp, registers.regs.lr_mask()),
+                saved_aarch64(memory, sp),
+            ),
         }),
         None => None,
     }

@@ -10,6 +10,7 @@ use crate::arch::{FileModules, ThreadArch};
 use crate::walks::{NextFrame, next_frame};
 use core_files::Memory;
 use framehop::{Session, StackWalk};
+use framehop_whole_modules::WholeRegs;
 
 // The word at an address.
 fn word_at(memory: &Memory<'_, '_>, address: u64) -> Result<u64, ()>
@@ -22,8 +23,8 @@ fn word_at(memory: &Memory<'_, '_>, address: u64) -> Result<u64, ()>
 pub fn next_in_memory<'a, A: ThreadArch>(
     session: &mut Session<FileModules<'a, A>>,
     memory: &Memory<'_, 'a>,
-    walk: &mut StackWalk<A::UnwindRegs>,
-) -> NextFrame<A::UnwindRegs>
+    walk: &mut StackWalk<WholeRegs<A::UnwindRegs>>,
+) -> NextFrame<WholeRegs<A::UnwindRegs>>
     requires { IsReady session.old }
     ensures next { IsAdvance result walk.new
         (advance_in A.stacks session.old memory.now walk.old (word_of memory.now)) }

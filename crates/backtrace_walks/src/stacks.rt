@@ -17,6 +17,7 @@ use backtrace_json::{write_end_part, write_frame_part, write_thread_part};
 use backtrace_text::WalkEnd;
 use core_files::Thread;
 use framehop::Session;
+use framehop_whole_modules::WholeRegs;
 use json_program::{RunError, Sink};
 use std::alloc::Global;
 
@@ -26,7 +27,7 @@ fn write_walked<A: ThreadArch, W: Sink>(
     process: &CoreProcess<'_, '_, '_>,
     options: &BacktraceOptions,
     number: u64,
-    frame: &WalkedFrame<A::UnwindRegs>,
+    frame: &WalkedFrame<WholeRegs<A::UnwindRegs>>,
     sink: &mut W,
 ) -> Result<(), RunError>
     requires { W.has_failed sink.old ≡ false }
@@ -44,7 +45,7 @@ fn write_walk<'a, A: ThreadArch, W: Sink>(
     session: &mut Session<FileModules<'a, A>>,
     process: &CoreProcess<'_, '_, 'a>,
     options: &BacktraceOptions,
-    start: &ThreadStart<A::UnwindRegs>,
+    start: &ThreadStart<WholeRegs<A::UnwindRegs>>,
     sink: &mut W,
 ) -> Result<(), RunError>
     requires session { IsSessionOf process.now session.old }
@@ -74,7 +75,7 @@ fn write_stack<'a, A: ThreadArch, W: Sink>(
     options: &BacktraceOptions,
     later: bool,
     id: u64,
-    start: &ThreadStart<A::UnwindRegs>,
+    start: &ThreadStart<WholeRegs<A::UnwindRegs>>,
     sink: &mut W,
 ) -> Result<(), RunError>
     requires session { IsSessionOf process.now session.old }

@@ -12,6 +12,7 @@ use backtrace_text::WalkEnd;
 use core_files::Memory;
 use framehop::{CacheId, Session, StackWalk, UnwinderId};
 use framehop_registers::{Error, FrameAddress};
+use framehop_whole_modules::WholeRegs;
 
 /// A frame of a walk.
 #[derive(Clone, Copy, Debug)]
@@ -46,9 +47,9 @@ fn next_by<R: Copy>(answer: Result<Option<FrameAddress>, Error>, registers: R) -
 #[tactic(auto, using(crate::proofs::Addresses::same_address))]
 fn resumed<A: ThreadArch>(
     memory: &Memory<'_, '_>,
-    walk: StackWalk<A::UnwindRegs>,
+    walk: StackWalk<WholeRegs<A::UnwindRegs>>,
     answer: Result<Option<FrameAddress>, Error>,
-) -> StackWalk<A::UnwindRegs>
+) -> StackWalk<WholeRegs<A::UnwindRegs>>
     ensures { walk_of result
         ≡ resumed (A.stacks.interrupted (word_of memory.now)) (frame_answer answer) (walk_of walk) }
 {
@@ -70,9 +71,9 @@ fn resumed<A: ThreadArch>(
 pub fn next_frame<'a, A: ThreadArch, F: FnMut(u64) -> Result<u64, ()>>(
     session: &mut Session<FileModules<'a, A>>,
     memory: &Memory<'_, 'a>,
-    walk: &mut StackWalk<A::UnwindRegs>,
+    walk: &mut StackWalk<WholeRegs<A::UnwindRegs>>,
     read_stack: &mut F,
-) -> NextFrame<A::UnwindRegs>
+) -> NextFrame<WholeRegs<A::UnwindRegs>>
     requires callable { F.IsAlwaysCallable read_stack.old }
     requires session { IsReady session.old }
     ensures callable { F.IsAlwaysCallable read_stack.new }

@@ -16,6 +16,7 @@ use framehop::{Session, StackWalk};
 use framehop_registers::x86_64::UnwindRegsX86_64;
 use framehop_registers::{Error, FrameAddress};
 use framehop_rules::x86_64::ArchX86_64;
+use framehop_whole_modules::WholeRegs;
 use std::alloc::{AllocError, Global};
 use std::process::Abort;
 use std::test::Fail;
@@ -38,10 +39,10 @@ fn mapped<'a>(bytes: &'a [u8]) -> LoadedFile<'a> {
 }
 
 // A thread at the first instruction of `leaf`.
-fn start() -> ThreadStart<UnwindRegsX86_64> {
+fn start() -> ThreadStart<WholeRegs<UnwindRegsX86_64>> {
     ThreadStart {
         pc: 0x10_1000,
-        registers: UnwindRegsX86_64::new(0x10_1000, STACK + 16, STACK + 32),
+        registers: WholeRegs::new(UnwindRegsX86_64::new(0x10_1000, STACK + 16, STACK + 32)),
     }
 }
 
@@ -57,18 +58,18 @@ fn shown(address: FrameAddress) -> (u64, bool) {
 type Walked<R> = (Vec<WalkedFrame<R>>, WalkEnd);
 
 // The walk ends where the next frame record can't be read.
-fn expect_frames(rt: &impl Abort, walked: &Walked<UnwindRegsX86_64>) {
+fn expect_frames(rt: &impl Abort, walked: &Walked<WholeRegs<UnwindRegsX86_64>>) {
     let [first, second, third] = walked.0.as_slice() else {
         assert!(rt; false);
         return;
     };
     assert!(rt; shown(first.address) == (0x10_1000, false));
     assert!(rt; shown(second.address) == (0x10_1200, true));
-    assert!(rt; second.registers.sp() == STACK + 24);
-    assert!(rt; second.registers.bp() == STACK + 32);
+    assert!(rt; second.registers.regs.sp() == STACK + 24);
+    assert!(rt; second.registers.regs.bp() == STACK + 32);
     assert!(rt; shown(third.address) == (0x10_1300, true));
-    assert!(rt; third.registers.sp() == STACK + 48);
-    assert!(rt; third.registers.bp() == 0x9000);
+    assert!(rt; third.registers.regs.sp() == STACK + 48);
+    assert!(rt; third.registers.regs.bp() == 0x9000);
     assert!(rt; walked.1 == WalkEnd::Stopped(Error::CouldNotReadStack(0x9000)));
 }
 
@@ -77,8 +78,8 @@ fn walked_through<'a, A: ThreadArch>(
     alloc: Global,
     session: &mut Session<FileModules<'a, A>>,
     memory: &Memory<'_, 'a>,
-    start: &ThreadStart<A::UnwindRegs>,
-) -> Result<Walked<A::UnwindRegs>, AllocError>
+    start: &ThreadStart<WholeRegs<A::UnwindRegs>>,
+) -> Result<Walked<WholeRegs<A::UnwindRegs>>, AllocError>
     requires { IsReady session.old }
     ensures { IsReady session.new }
 {
@@ -98,8 +99,8 @@ fn walked_in_memory<'a, A: ThreadArch>(
     alloc: Global,
     files: &[LoadedFile<'a>],
     memory: &Memory<'_, 'a>,
-    start: &ThreadStart<A::UnwindRegs>,
-) -> Result<Walked<A::UnwindRegs>, AllocError> {
+    start: &ThreadStart<WholeRegs<A::UnwindRegs>>,
+) -> Result<Walked<WholeRegs<A::UnwindRegs>>, AllocError> {
     let mut session = session_of::<A>(alloc, files)?;
     walked_through::<A>(alloc, &mut session, memory, start)?;
     walked_through::<A>(alloc, &mut session, memory, start)
@@ -122,9 +123,9 @@ fn word_at(at: u64) -> Result<u64, ()> {
 fn walked_over<'a, A: ThreadArch, F: FnMut(u64) -> Result<u64, ()>>(
     alloc: Global,
     session: &mut Session<FileModules<'a, A>>,
-    start: &ThreadStart<A::UnwindRegs>,
+    start: &ThreadStart<WholeRegs<A::UnwindRegs>>,
     read_stack: &mut F,
-) -> Result<Walked<A::UnwindRegs>, AllocError>
+) -> Result<Walked<WholeRegs<A::UnwindRegs>>, AllocError>
     requires callable { F.IsAlwaysCallable read_stack.old }
     requires session { IsReady session.old }
 {
@@ -144,8 +145,8 @@ fn walked_over<'a, A: ThreadArch, F: FnMut(u64) -> Result<u64, ()>>(
 fn walked_by_words<'a, A: ThreadArch>(
     alloc: Global,
     files: &[LoadedFile<'a>],
-    start: &ThreadStart<A::UnwindRegs>,
-) -> Result<Walked<A::UnwindRegs>, AllocError> {
+    start: &ThreadStart<WholeRegs<A::UnwindRegs>>,
+) -> Result<Walked<WholeRegs<A::UnwindRegs>>, AllocError> {
     let mut session = session_of::<A>(alloc, files)?;
     let mut read_stack = |at: u64| -> Result<u64, ()> { word_at(at) };
     walked_over::<A, _>(alloc, &mut session, start, &mut read_stack)
